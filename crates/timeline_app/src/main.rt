@@ -1,0 +1,6 @@
+//! `timeline`: cuts lossless archive video.
+#![tactic(auto)]
+
+mod script;
+
+fn main() {}
