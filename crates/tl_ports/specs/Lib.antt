@@ -1,1 +1,3 @@
+pub mod FaultPlan
+pub mod FileList
 pub mod Outside
