@@ -1,0 +1,14 @@
+//! Elements of EBML (RFC 8794): their ids and sizes, and a walk over them that takes no memory.
+#![tactic(auto)]
+
+mod element;
+mod laws;
+mod number;
+mod vint;
+mod walker;
+
+pub use element::{EbmlFault, EbmlWhy, Element};
+pub use laws::{one_reading, walk_is_spelling};
+pub use number::unsigned;
+pub use vint::{Size, VintFault, vint_id, vint_size};
+pub use walker::Walker;
