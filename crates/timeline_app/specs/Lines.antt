@@ -1,0 +1,48 @@
+-- The lines that the program puts out, each ended by a line feed.
+use Rattle.std.specs.Prelude.{ℕ, List, [], ◌∷◌, ◌++◌, codes}
+use Rattle.std.specs.Fmt.{decimal}
+use Rattle.tl_ports.specs.declared.fault.FetchFault.{FetchFault}
+use Rattle.tl_ports.specs.declared.fault.FetchFault.TheVariants as fetching
+
+abbrev pub line : List ℕ → List ℕ
+line text = text ++ 10 ∷ []
+
+unfoldable pub usage_line : List ℕ
+usage_line = line (codes "usage: timeline SCRIPT [--workers N] [--cache N] [--journal N]")
+
+-- an edit was accepted, and leaves so many frames
+unfoldable pub ok_line : (frames : ℕ) → List ℕ
+ok_line frames = codes "ok " ++ line (decimal frames)
+
+-- an export was asked for
+unfoldable pub asked_line : List ℕ
+asked_line = line (codes "asked 1")
+
+-- how the export ended
+unfoldable pub done_line : (frames : ℕ) → List ℕ
+done_line frames = codes "export 1 done " ++ line (decimal frames)
+
+unfoldable pub sink_line : List ℕ
+sink_line = line (codes "export 1 sink")
+
+-- the edit took a frame outside its clip, so the timeline is empty and nothing is exported
+unfoldable pub refused_lines : List ℕ
+refused_lines = line (codes "refused OutsideClip") ++ line (codes "refused EmptyTimeline")
+
+-- the script's line n, counted from 1, is faulty
+unfoldable pub fault_line : (n : ℕ) → List ℕ
+fault_line n = codes "fault line " ++ (decimal n ++ line (codes " Later"))
+
+-- the clip of the script's second line isn't a plain file
+unfoldable pub clip_fault_line : List ℕ
+clip_fault_line = line (codes "fault line 2 clip Later")
+
+-- a file wasn't fetched
+abbrev pub kind_of : FetchFault → List ℕ
+kind_of fetching.Failed = codes "Failed"
+kind_of fetching.Missing = codes "Missing"
+kind_of (fetching.TooLarge limit) = codes "TooLarge"
+kind_of fetching.NoMemory = codes "NoMemory"
+
+unfoldable pub store_line : (name : List ℕ) → FetchFault → List ℕ
+store_line name fault = codes "store " ++ (name ++ (codes " " ++ line (kind_of fault)))

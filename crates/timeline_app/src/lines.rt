@@ -1,0 +1,63 @@
+//! The lines that the program puts out.
+
+ghost use Rattle.std.specs.Prelude.{◌≡◌, IfOk, string_bytes, ◌++◌};
+ghost use Rattle.timeline_app.specs.Lines.{ok_line, done_line, fault_line, store_line, usage_line, asked_line, sink_line, refused_lines, clip_fault_line, kind_of};
+
+use std::alloc::{AllocError, Global};
+use tl_ports::FetchFault;
+
+pub const USAGE: &str = "usage: timeline SCRIPT [--workers N] [--cache N] [--journal N]\n";
+
+#[tactic(auto, unfolding(crate::specs::Lines::ok_line))]
+pub fn ok_line(alloc: Global, frames: u32) -> Result<String, AllocError>
+    ensures { IfOk result (λ text. string_bytes text ≡ ok_line frames) }
+{
+    format!(in alloc; "ok {frames}\n")
+}
+
+#[tactic(auto, unfolding(crate::specs::Lines::done_line))]
+pub fn done_line(alloc: Global, frames: u32) -> Result<String, AllocError>
+    ensures { IfOk result (λ text. string_bytes text ≡ done_line frames) }
+{
+    format!(in alloc; "export 1 done {frames}\n")
+}
+
+#[tactic(auto, unfolding(crate::specs::Lines::fault_line))]
+pub fn fault_line(alloc: Global, n: u32) -> Result<String, AllocError>
+    ensures { IfOk result (λ text. string_bytes text ≡ fault_line n) }
+{
+    format!(in alloc; "fault line {n} Later\n")
+}
+
+#[tactic(auto, unfolding(crate::specs::Lines::store_line))]
+pub fn store_line(alloc: Global, name: &str, fault: FetchFault) -> Result<String, AllocError>
+    ensures { IfOk result (λ text. string_bytes text ≡ store_line name.now fault) }
+{
+    let kind = kind_of(fault);
+    format!(in alloc; "store {name} {kind}\n")
+}
+
+fn kind_of(fault: FetchFault) -> &'static str
+    ensures { result.now ≡ kind_of fault }
+{
+    match fault {
+        FetchFault::Failed => "Failed",
+        FetchFault::Missing => "Missing",
+        FetchFault::TooLarge { limit: _ } => "TooLarge",
+        FetchFault::NoMemory => "NoMemory",
+    }
+}
+
+#[tactic(auto, unfolding(crate::specs::Lines::usage_line))]
+pub fn usage_line() -> &'static str
+    ensures { result.now ≡ usage_line }
+{
+    USAGE
+}
+
+#[tactic(auto, unfolding(crate::specs::Lines::refused_lines))]
+pub fn refused_lines() -> (&'static str, &'static str)
+    ensures { result.0.now ++ result.1.now ≡ refused_lines }
+{
+    ("refused OutsideClip\n", "refused EmptyTimeline\n")
+}
