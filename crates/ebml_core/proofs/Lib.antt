@@ -1,3 +1,5 @@
 pub mod Numbers
 pub mod Vints
 pub mod Pieces
+pub mod Headers
+pub mod Walks

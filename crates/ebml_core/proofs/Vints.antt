@@ -41,25 +41,25 @@ counted first some fits =
     elim (cases_lt first 128) [
       | inr high ↦ record { count = 1; some = omega arith; most = omega arith; first_is = record { low = high; high = fits } }
       | inl below ↦ elim (cases_lt first 64) [
-          | inr high ↦ record { count = 2; some = omega arith; most = omega arith; first_is = record { low = high; high = below } }
-          | inl below2 ↦ elim (cases_lt first 32) [
-              | inr high ↦ record { count = 3; some = omega arith; most = omega arith; first_is = record { low = high; high = below2 } }
-              | inl below3 ↦ elim (cases_lt first 16) [
-                  | inr high ↦ record { count = 4; some = omega arith; most = omega arith; first_is = record { low = high; high = below3 } }
-                  | inl below4 ↦ elim (cases_lt first 8) [
-                      | inr high ↦ record { count = 5; some = omega arith; most = omega arith; first_is = record { low = high; high = below4 } }
-                      | inl below5 ↦ elim (cases_lt first 4) [
-                          | inr high ↦ record { count = 6; some = omega arith; most = omega arith; first_is = record { low = high; high = below5 } }
-                          | inl below6 ↦ elim (cases_lt first 2) [
-                              | inr high ↦ record { count = 7; some = omega arith; most = omega arith; first_is = record { low = high; high = below6 } }
-                              | inl below7 ↦ record { count = 8; some = omega arith; most = omega arith; first_is = record { low = some; high = below7 } }
-                              ]
-                          ]
-                      ]
-                  ]
+        | inr high ↦ record { count = 2; some = omega arith; most = omega arith; first_is = record { low = high; high = below } }
+        | inl below2 ↦ elim (cases_lt first 32) [
+          | inr high ↦ record { count = 3; some = omega arith; most = omega arith; first_is = record { low = high; high = below2 } }
+          | inl below3 ↦ elim (cases_lt first 16) [
+            | inr high ↦ record { count = 4; some = omega arith; most = omega arith; first_is = record { low = high; high = below3 } }
+            | inl below4 ↦ elim (cases_lt first 8) [
+              | inr high ↦ record { count = 5; some = omega arith; most = omega arith; first_is = record { low = high; high = below4 } }
+              | inl below5 ↦ elim (cases_lt first 4) [
+                | inr high ↦ record { count = 6; some = omega arith; most = omega arith; first_is = record { low = high; high = below5 } }
+                | inl below6 ↦ elim (cases_lt first 2) [
+                  | inr high ↦ record { count = 7; some = omega arith; most = omega arith; first_is = record { low = high; high = below6 } }
+                  | inl below7 ↦ record { count = 8; some = omega arith; most = omega arith; first_is = record { low = some; high = below7 } }
+                ]
               ]
+            ]
           ]
+        ]
       ]
+    ]
 
 -- the marker's weight, by that of the octets behind the first
 powers : (count : ℕ) → count ≤ 7 → 2 ^ (7 * suc count) ≡ 256 ^ count * 2 ^ (8 - suc count)
@@ -105,22 +105,22 @@ first-from_vint most first tail le v =
       low = elim (cases_lt first p) [
         | inr low ↦ low
         | inl below ↦
-          let over : 256 ^ n * suc first ≤ 256 ^ n * p = mul-le-mul_left (256 ^ n) below in
-          absurd (omega (arith, number, rest, weight, over, v.marked))
-        ];
+            let over : 256 ^ n * suc first ≤ 256 ^ n * p = mul-le-mul_left (256 ^ n) below in
+            absurd (omega (arith, number, rest, weight, over, v.marked))
+      ];
       high = elim (cases_lt first (2 * p)) [
         | inl high ↦ high
         | inr above ↦
-          let under : 256 ^ n * (2 * p) ≤ 256 ^ n * first = mul-le-mul_left (256 ^ n) above in
-          absurd (omega (arith, number, weight, under, filled))
-        ];
+            let under : 256 ^ n * (2 * p) ≤ 256 ^ n * first = mul-le-mul_left (256 ^ n) above in
+            absurd (omega (arith, number, weight, under, filled))
+      ];
     }
 
 abbrev pub ok : List ℕ → Result (List ℕ) VintFault
 ok octets = Ok octets
 
 -- a test that let pass
-passed : {A : Type 0} (b : Bool) (fault : VintFault) (r : Result A VintFault) (x : A) → cond b (Err fault) r ≡ Ok x → (b ≡ false) × (r ≡ Ok x)
+pub passed : {A : Type 0} (b : Bool) (fault : VintFault) (r : Result A VintFault) (x : A) → cond b (Err fault) r ≡ Ok x → (b ≡ false) × (r ≡ Ok x)
 passed true fault r x e = absurd cc
 passed false fault r x e = (refl, e)
 

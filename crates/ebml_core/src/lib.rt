@@ -12,3 +12,6 @@ pub use laws::{one_reading, walk_is_spelling};
 pub use number::unsigned;
 pub use vint::{Size, VintFault, vint_id, vint_size};
 pub use walker::Walker;
+
+#[cfg(test)]
+mod tests;

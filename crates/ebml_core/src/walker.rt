@@ -68,6 +68,7 @@ fn element(place: u64, text: &[u8]) -> Result<Element, EbmlFault>
 }
 
 /// Goes from element to element, from one place of the bytes up to another.
+#[derive(Drop)]
 pub struct Walker<'a> {
     bytes: &'a [u8],
     place: u64,

@@ -1,0 +1,76 @@
+-- A walk gives exactly the elements that the bytes spell.
+use Rattle.std.proofs.Common.{◌≡◌, ℕ, zero, suc, false, ◌+◌, ◌-◌, ◌<◌, ◌≤◌, List, [], ◌∷◌, ◌++◌, length, take, drop, Option, Some, None, Result, Ok, Err, refl, sym, ap, subst, ◌∙◌, append_assoc, arith}
+use Rattle.std.specs.List.{flat_map, AllByRecursion}
+use Rattle.std.proofs.lemmas.List.{length-append, length-drop, drop_at}
+use Rattle.ebml_core.specs.declared.element.Element.{Element}
+use Rattle.ebml_core.specs.declared.element.EbmlFault.{EbmlFault}
+use Rattle.ebml_core.specs.Spelling.{Piece, IsPiece, Spells, spelling, element_of, elements_from}
+use Rattle.ebml_core.specs.Reading.{element_at}
+use Rattle.ebml_core.specs.Walking.{Walk, ends, breaks, gives, onward, walk_upto, walk, whole}
+use Rattle.ebml_core.proofs.Numbers.{AreBytes, AreBytes-drop}
+use Rattle.ebml_core.proofs.Headers.{element_at-advances, element_at-stands, element_at-again, element_at-end}
+
+-- the steps of a walk, one way to go on being as good as the other after the element that is read
+onward-same : (r : Result (Option Element) EbmlFault) (f g : Element → Walk) → ((e : Element) → r ≡ Ok (Some e) → f e ≡ g e) → onward r f ≡ onward r g
+onward-same (Ok None) f g same = refl
+onward-same (Ok (Some e)) f g same = ap (gives e) (same e refl)
+onward-same (Err fault) f g same = refl
+
+-- More steps than octets are enough.
+walk_upto-enough : (m n place : ℕ) (text : List ℕ) → length text < m → length text < n → walk_upto m place text ≡ walk_upto n place text
+unfolding walk_upto
+walk_upto-enough zero n place text lm ln = absurd (omega arith)
+walk_upto-enough (suc m) zero place text lm ln = absurd (omega arith)
+walk_upto-enough (suc m) (suc n) place text lm ln =
+    onward-same (element_at place text) _ _ (λ e h.
+    let a = element_at-advances place text e h in
+    walk_upto-enough m n e.end (drop (e.end - place) text) (omega (arith, a.more, a.within, length-drop (e.end - place) text)) (omega (arith, a.more, a.within, length-drop (e.end - place) text)))
+
+-- A walk is its first element, and the walk from that element's end.
+pub walk-step : (place : ℕ) (text : List ℕ) → walk place text ≡ onward (element_at place text) (λ e. walk e.end (drop (e.end - place) text))
+unfolding walk walk_upto
+walk-step place text =
+    onward-same (element_at place text) _ _ (λ e h.
+    let a = element_at-advances place text e h in
+    walk_upto-enough (length text) (suc (length (drop (e.end - place) text))) e.end (drop (e.end - place) text) (omega (arith, a.more, a.within, length-drop (e.end - place) text)) (omega arith))
+
+onward-ends : (r : Result (Option Element) EbmlFault) (f : Element → Walk) → onward r f ≡ ends → r ≡ Ok None
+onward-ends (Ok None) f h = refl
+onward-ends (Ok (Some e)) f h = absurd cc
+onward-ends (Err fault) f h = absurd cc
+
+onward-gives : (r : Result (Option Element) EbmlFault) (f : Element → Walk) (e : Element) (w : Walk) → onward r f ≡ gives e w → (r ≡ Ok (Some e)) × (f e ≡ w)
+onward-gives (Ok None) f e w h = absurd cc
+onward-gives (Ok (Some d)) f e w h =
+    let same : d ≡ e = cc in
+    (ap (λ (x : Element). Ok (Some x)) same, ap f (sym same) ∙ cc)
+onward-gives (Err fault) f e w h = absurd cc
+
+-- The text at a place is these elements of known size.
+pub record Lies (place : ℕ) (text : List ℕ) (es : List Element) : Type 0 where
+  pub pieces : List Piece
+  pub spelled : Spells text pieces
+  pub placed : es ≡ elements_from place pieces
+
+pub walk-lies : (place : ℕ) (text : List ℕ) (es : List Element) → AreBytes text → AllByRecursion (λ e. e.unknown ≡ false) es → walk place text ≡ whole es → Lies place text es
+walk-lies place text [] fits known h =
+    record { pieces = []; spelled = record { each = tt; whole = element_at-end place text (onward-ends _ _ (sym (walk-step place text) ∙ h)) }; placed = refl }
+walk-lies place text (e ∷ es) fits known h =
+    let a = onward-gives (element_at place text) _ e (whole es) (sym (walk-step place text) ∙ h) in
+    let one = element_at-stands place text e fits known.0 a.0 in
+    let rest = walk-lies e.end (drop (e.end - place) text) es (AreBytes-drop (e.end - place) text fits) known.1 a.1 in
+    let end : e.end ≡ place + length (spelling one.piece) = ap (λ (x : Element). x.end) one.placed in
+    record {
+      pieces = one.piece ∷ rest.pieces;
+      spelled = record { each = (one.is, rest.spelled.each); whole = one.front ∙ ap (λ (x : List ℕ). spelling one.piece ++ x) rest.spelled.whole };
+      placed = ap (λ (x : Element). x ∷ es) one.placed ∙ ap (λ (xs : List Element). element_of place one.piece ∷ xs) (rest.placed ∙ ap (λ (n : ℕ). elements_from n rest.pieces) end);
+    }
+
+pub walk-again : (place : ℕ) (ps : List Piece) → AllByRecursion IsPiece ps → walk place (flat_map spelling ps) ≡ whole (elements_from place ps)
+unfolding element_at
+walk-again place [] each = walk-step place []
+walk-again place (p ∷ ps) each =
+    let text = spelling p ++ flat_map spelling ps in
+    let first : element_at place text ≡ Ok (Some (element_of place p)) = element_at-again place p (flat_map spelling ps) each.0 in
+    let rest : drop (place + length (spelling p) - place) text ≡ flat_map spelling ps = drop_at (spelling p) (flat_map spelling ps) _ (omega arith) in
+    walk-step place text ∙ ap (λ (r : Result (Option Element) EbmlFault). onward r (λ e. walk e.end (drop (e.end - place) text))) first ∙ ap (gives (element_of place p)) (ap (walk (place + length (spelling p))) rest ∙ walk-again (place + length (spelling p)) ps each.1)

@@ -1,0 +1,15 @@
+use Rattle.std.proofs.Common.{ap, sym, ◌∙◌}
+use Rattle.ebml_core.specs.Spelling.{between, elements_from}
+use Rattle.ebml_core.specs.Walking.{walk, whole}
+use Rattle.ebml_core.proofs.Numbers.{AreBytes-take, AreBytes-drop}
+use Rattle.ebml_core.proofs.Walks.{walk-lies, walk-again}
+use Rattle.ebml_core.proofs.laws.walk_is_spelling.Goals as goal
+
+pub returns-clause-walked : goal.returns-clause-walked
+returns-clause-walked c = λ bytes from to es fits order within known h.
+    let lies = walk-lies from (between bytes from to) es (AreBytes-take _ _ (AreBytes-drop from bytes fits)) known h in
+    record { pieces = lies.pieces; spelled = lies.spelled; placed = lies.placed }
+
+pub returns-clause-spelled : goal.returns-clause-spelled
+returns-clause-spelled c = λ bytes from to es holds.
+    ap (walk from) holds.spelled.whole ∙ walk-again from holds.pieces holds.spelled.each ∙ ap whole (sym holds.placed)
