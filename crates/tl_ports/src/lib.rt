@@ -24,3 +24,6 @@ pub use mem_store::MemStore;
 pub use mem_vault::MemVault;
 pub use out_sink::OutSink;
 pub use ports::{Sink, Store, Vault};
+
+#[cfg(test)]
+mod tests;
