@@ -46,3 +46,11 @@ kind_of fetching.NoMemory = codes "NoMemory"
 
 unfoldable pub store_line : (name : List ℕ) → FetchFault → List ℕ
 store_line name fault = codes "store " ++ (name ++ (codes " " ++ line (kind_of fault)))
+
+-- memory ran out before the session started
+unfoldable pub memory_line : List ℕ
+memory_line = line (codes "no memory")
+
+-- memory ran out in the export
+unfoldable pub export_memory_line : List ℕ
+export_memory_line = line (codes "export 1 memory")

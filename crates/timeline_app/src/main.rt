@@ -1,7 +1,10 @@
 //! `timeline`: cuts lossless archive video.
 #![tactic(auto)]
 
+mod job;
 mod lines;
+mod parse;
 mod script;
+mod stop;
 
 fn main() {}

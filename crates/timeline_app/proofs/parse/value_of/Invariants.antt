@@ -1,6 +1,6 @@
 use Rattle.std.proofs.Common.{◌≡◌, ◌≤◌, ◌+◌, ◌*◌, ◌^◌, take}
 use Rattle.timeline_app.specs.Script.{value_of}
-use Rattle.timeline_app.proofs.script.value_of.Given as goal
+use Rattle.timeline_app.proofs.parse.value_of.Given as goal
 
 abbrev pub invariant-loop-digit : goal.invariant-loop-digit
 invariant-loop-digit l = record {

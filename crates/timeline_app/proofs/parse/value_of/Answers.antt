@@ -1,6 +1,6 @@
 use Rattle.std.proofs.Common.{◌<◌, arith, ◌+◌, ◌≤◌, ◌*◌, ◌^◌, length}
 use Rattle.timeline_app.proofs.Digits.{fits_next, next_small}
-use Rattle.timeline_app.proofs.script.value_of.Goals as goal
+use Rattle.timeline_app.proofs.parse.value_of.Goals as goal
 
 pub overflow_mul-value : goal.overflow_mul-value
 overflow_mul-value c =

@@ -3,7 +3,7 @@ use Rattle.std.proofs.lemmas.Iterator.Consumers.{map_from_collect}
 use Rattle.std.proofs.lemmas.Iterator.Splits.{YieldsList-from_slice_split}
 use borrow.Author.Tests.{tests}
 use Rattle.timeline_app.specs.Script.{is_blank}
-use Rattle.timeline_app.proofs.script.pieces_of.Goals as goal
+use Rattle.timeline_app.proofs.parse.pieces_of.Goals as goal
 
 pub returns : goal.returns
 returns c =

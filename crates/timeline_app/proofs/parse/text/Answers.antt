@@ -1,6 +1,6 @@
 use Rattle.std.proofs.Common.{ap, ◌∙◌, Some}
 use Rattle.timeline_app.proofs.Text.{text-utf8, text-other}
-use Rattle.timeline_app.proofs.script.text.Goals as goal
+use Rattle.timeline_app.proofs.parse.text.Goals as goal
 
 pub returns-in-Ok : goal.returns-in-Ok
 returns-in-Ok c = ap Some c.in-Ok.ensures.cases.0 ∙ text-utf8 c.args.word.now c.in-Ok.ensures.cases.1

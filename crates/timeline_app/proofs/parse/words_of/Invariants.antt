@@ -1,5 +1,5 @@
 use Rattle.std.proofs.Common.{◌≡◌, map, take, length, not, nat_eq, filter}
-use Rattle.timeline_app.proofs.script.words_of.Given as goal
+use Rattle.timeline_app.proofs.parse.words_of.Given as goal
 
 abbrev pub invariant-loop-piece : goal.invariant-loop-piece
 invariant-loop-piece l =

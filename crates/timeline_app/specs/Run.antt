@@ -1,0 +1,148 @@
+-- What a run does: what it works on, what it puts out, and which status has which cause.
+use Rattle.std.specs.Prelude.{◌≡◌, ◌≢◌, ◌⊎◌, ℕ, ◌<◌, ◌≤◌, Bool, true, false, not, ◌==◌, if◌then◌else◌, List, [], ◌∷◌, ◌++◌, length, map, take, drop, slice_index, Option, Some, None, Result, Ok, Err, string_bytes}
+use Rattle.std.specs.List.{AllByRecursion}
+use Rattle.tl_ports.specs.declared.fault.FetchFault.{FetchFault}
+use Rattle.tl_ports.specs.declared.fault.FetchFault.TheVariants as fetching
+use Rattle.tl_ports.specs.Outside.{Rose}
+use Rattle.mkv_read.specs.declared.clip.ClipIndex.{ClipIndex}
+use Rattle.mkv_read.specs.declared.clip.Place.{Place}
+use Rattle.mkv_read.specs.Plain.{IsPlainFile, LiesBefore}
+use Rattle.mkv_write.specs.File.{mkv}
+use Rattle.mkv_write.specs.Writing.{IsPrefix}
+use Rattle.timeline_app.specs.declared.script.Script.{Script}
+use Rattle.timeline_app.specs.declared.stop.Stop.{Stop}
+use Rattle.timeline_app.specs.declared.stop.Stop.TheVariants as stops
+use Rattle.timeline_app.specs.declared.job.TheConstants.{SCRIPT_LIMIT, CLIP_LIMIT}
+use Rattle.timeline_app.specs.Script.{Form, script_of}
+use Rattle.timeline_app.specs.Reading.{view}
+use Rattle.timeline_app.specs.Lines.{usage_line, ok_line, asked_line, done_line, sink_line, refused_lines, fault_line, clip_fault_line, store_line, memory_line}
+
+-- The name of the script: the words are of the form where there is one, which doesn't begin with `-`.
+unfoldable pub script_name : List (List ℕ) → Option (List ℕ)
+script_name (word ∷ []) = if slice_index word 0 == 45 then None else Some word
+script_name other = None
+
+-- The record and the packets lie within the file, which isn't too large.
+pub record PlacesLie (bytes : List ℕ) (clip : ClipIndex) : Type 0 where
+  pub size : length bytes ≤ CLIP_LIMIT
+  pub private : LiesBefore (length bytes) clip.private
+  pub packets : AllByRecursion (LiesBefore (length bytes)) clip.packets
+
+-- The bytes at a place.
+abbrev pub bytes_at : List ℕ → Place → List ℕ
+bytes_at bytes place = take place.len (drop place.from bytes)
+
+-- A script of the form was fetched.
+pub record IsScript (tells : Type 0) (file : List ℕ → Option (List ℕ)) (name : List ℕ) (script : Form) : Type 0 where
+  pub text : List ℕ
+  pub fetched : tells → file name ≡ Some text
+  pub form : script_of text ≡ Ok script
+
+-- A script of the form was fetched, and its clip, a plain file.
+pub record IsJob (tells : Type 0) (file : List ℕ → Option (List ℕ)) (name : List ℕ) (script : Form) (bytes : List ℕ) (clip : ClipIndex) : Type 0 where
+  pub read : IsScript tells file name script
+  pub fetched : tells → file script.file ≡ Some bytes
+  pub plain : IsPlainFile bytes clip
+
+-- The frames lie within the clip.
+abbrev pub IsInside : Form → ClipIndex → Type 0
+IsInside script clip = script.len ≤ length clip.packets
+
+-- The exported file over so many of the clip's first packets, byte for byte, at the script's rate.
+abbrev pub export_over : (count : ℕ) → Form → List ℕ → ClipIndex → List ℕ
+export_over count script bytes clip = mkv (bytes_at bytes clip.private) clip.width clip.height script.rate (map (bytes_at bytes) (take count clip.packets))
+
+-- The exported file.
+abbrev pub export_of : Form → List ℕ → ClipIndex → List ℕ
+export_of script = export_over script.len script
+
+-- Some front of the file over some of those packets.
+abbrev pub IsPartial : List ℕ → Form → List ℕ → ClipIndex → Type 0
+IsPartial held script bytes clip = (count : ℕ) × (count ≤ script.len) × IsPrefix held (export_over count script bytes clip)
+
+-- A fetch that was refused has its cause: the count rose, or the told store lacks the file or holds more of it than the limit.
+abbrev pub IsUnfetched : (tells : Type 0) (kept : Option (List ℕ)) (limit : ℕ) (rose : Type 0) → FetchFault → Type 0
+IsUnfetched tells kept limit rose fetching.Failed = rose
+IsUnfetched tells kept limit rose fetching.Missing = rose ⊎ (tells × (kept ≡ None))
+IsUnfetched tells kept limit rose (fetching.TooLarge told) = rose ⊎ (tells × ((text : List ℕ) × (kept ≡ Some text) × (limit < length text)))
+IsUnfetched tells kept limit rose fetching.NoMemory = ⊥
+
+-- The script's text was read: it is of the form, or this line of it isn't.
+abbrev pub ReadsScript : (text : List ℕ) → Result Script Stop → Type 0
+ReadsScript text (Ok script) = script_of text ≡ Ok (view script)
+ReadsScript text (Err (stops.Faulty n)) = script_of text ≡ Err n
+ReadsScript text (Err stops.NoMemory) = Unit {0}
+ReadsScript text (Err stops.NotPlain) = ⊥
+ReadsScript text (Err (stops.Unfetched name fault)) = ⊥
+
+-- The clip's bytes were read: they are a plain file, or none.
+abbrev pub ReadsClip : (bytes : List ℕ) → Result ClipIndex Stop → Type 0
+ReadsClip bytes (Ok clip) = IsPlainFile bytes clip
+ReadsClip bytes (Err stops.NotPlain) = (clip : ClipIndex) → IsPlainFile bytes clip → ⊥
+ReadsClip bytes (Err stops.NoMemory) = Unit {0}
+ReadsClip bytes (Err (stops.Faulty n)) = ⊥
+ReadsClip bytes (Err (stops.Unfetched name fault)) = ⊥
+
+-- The file of this name wasn't fetched, for a cause.
+abbrev pub IsUnfetchedStop : (tells : Type 0) (kept : Option (List ℕ)) (name : List ℕ) (limit : ℕ) (rose : Type 0) → Stop → Type 0
+IsUnfetchedStop tells kept name limit rose (stops.Unfetched of fault) = (string_bytes of ≡ name) × IsUnfetched tells kept limit rose fault
+IsUnfetchedStop tells kept name limit rose stops.NoMemory = Unit {0}
+IsUnfetchedStop tells kept name limit rose (stops.Faulty n) = ⊥
+IsUnfetchedStop tells kept name limit rose stops.NotPlain = ⊥
+
+-- The clip's file of this name wasn't fetched, or it was and isn't a plain file.
+abbrev pub IsClipStop : (tells : Type 0) (kept : Option (List ℕ)) (name : List ℕ) (rose : Type 0) → Stop → Type 0
+IsClipStop tells kept name rose (stops.Unfetched of fault) = (string_bytes of ≡ name) × IsUnfetched tells kept CLIP_LIMIT rose fault
+IsClipStop tells kept name rose stops.NotPlain = (bytes : List ℕ) × (tells → kept ≡ Some bytes) × ((clip : ClipIndex) → IsPlainFile bytes clip → ⊥)
+IsClipStop tells kept name rose stops.NoMemory = Unit {0}
+IsClipStop tells kept name rose (stops.Faulty n) = ⊥
+
+-- A session that doesn't start has its cause: the script or, where it is of the form, its clip wasn't fetched; the script was fetched and
+-- isn't of the form; or it is, and the clip was fetched and isn't a plain file.
+abbrev pub StopHasCause : (tells : Type 0) (file : List ℕ → Option (List ℕ)) (name : List ℕ) (rose : Type 0) → Stop → Type 0
+StopHasCause tells file name rose (stops.Unfetched of fault) =
+    ((string_bytes of ≡ name) × IsUnfetched tells (file name) SCRIPT_LIMIT rose fault)
+    ⊎ ((script : Form) × IsScript tells file name script × IsClipStop tells (file script.file) script.file rose (stops.Unfetched of fault))
+StopHasCause tells file name rose (stops.Faulty n) = (text : List ℕ) × (tells → file name ≡ Some text) × (script_of text ≡ Err n)
+StopHasCause tells file name rose stops.NotPlain =
+    (script : Form) × IsScript tells file name script × IsClipStop tells (file script.file) script.file rose stops.NotPlain
+StopHasCause tells file name rose stops.NoMemory = Unit {0}
+
+-- The line that says why a session doesn't start.
+abbrev pub stop_line : Stop → List ℕ
+stop_line (stops.Unfetched name fault) = store_line (string_bytes name) fault
+stop_line (stops.Faulty n) = fault_line n
+stop_line stops.NotPlain = clip_fault_line
+stop_line stops.NoMemory = memory_line
+
+abbrev pub stop_status : Stop → ℕ
+stop_status (stops.Unfetched name fault) = 4
+stop_status (stops.Faulty n) = 3
+stop_status stops.NotPlain = 3
+stop_status stops.NoMemory = 5
+
+-- A text was put, whole, or where the count rose some front of it.
+abbrev pub Says : (tells : Type 0) (before after text : List ℕ) (rose : Type 0) → Type 0
+Says tells before after text rose = (tells → after ≡ before ++ text) ⊎ (rose × (tells → (count : ℕ) × (after ≡ before ++ take count text)))
+
+-- The script was played and its export was written.
+pub record Exports (vault_tells : Type 0) (file : List ℕ → Option (List ℕ)) (out_tells : Type 0) (before after : List ℕ) (script : Form) (bytes : List ℕ) (clip : ClipIndex) : Type 0 where
+  pub inside : IsInside script clip
+  pub lines : out_tells → after ≡ before ++ (ok_line script.len ++ asked_line ++ done_line script.len)
+  pub written : vault_tells → file script.export ≡ Some (export_of script bytes clip)
+
+-- The script was played and its insert was refused, so that nothing was exported.
+pub record Refuses (vault_tells : Type 0) (old new : List ℕ → Option (List ℕ)) (out_tells : Type 0) (before after : List ℕ) (script : Form) (clip : ClipIndex) : Type 0 where
+  pub outside : length clip.packets < script.len
+  pub lines : out_tells → after ≡ before ++ refused_lines
+  pub files : vault_tells → (name : List ℕ) → new name ≡ old name
+
+-- A file of the vault is as before, or it is the export's and holds some front of it.
+abbrev pub ChangesExport : (tells : Type 0) (old new : List ℕ → Option (List ℕ)) → Form → List ℕ → ClipIndex → Type 0
+ChangesExport tells old new script bytes clip = tells → (name : List ℕ) → (new name ≡ old name)
+    ⊎ ((name ≡ script.export) × IsInside script clip × ((held : List ℕ) × (new name ≡ Some held) × IsPartial held script bytes clip))
+
+-- The script couldn't be played to its end, or its export not be written: the count of `out` or of the vault rose.
+abbrev pub PlayFails : (vault_rose out_rose out_tells : Type 0) (before after : List ℕ) → Form → ClipIndex → Type 0
+PlayFails vault_rose out_rose out_tells before after script clip =
+    out_rose ⊎ (vault_rose × IsInside script clip × (out_tells → after ≡ before ++ (ok_line script.len ++ asked_line ++ sink_line)))

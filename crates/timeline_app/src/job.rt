@@ -1,0 +1,128 @@
+//! Fetching the script and its clip.
+
+ghost use Rattle.std.specs.Prelude.{◌≡◌, ◌≤◌, ℕ, List, Some, IfOk, IfErr, string_bytes, length};
+ghost use Rattle.tl_ports.specs.Outside.{Rose};
+ghost use Rattle.timeline_app.specs.Reading.{view};
+ghost use Rattle.timeline_app.specs.Run.{IsJob, IsScript, IsUnfetchedStop, IsClipStop, StopHasCause, ReadsScript, ReadsClip, PlacesLie};
+ghost use Rattle.mkv_read.specs.Plain.{IsPlainFile};
+
+use crate::parse::read_script;
+use crate::script::{Script, ScriptRefusal};
+use crate::stop::Stop;
+use mkv_read::{ClipFault, ClipIndex, read_clip};
+use std::alloc::Global;
+use tl_ports::{FetchFault, Store};
+
+/// The most bytes of a script.
+pub const SCRIPT_LIMIT: u64 = 16 * 1024 * 1024;
+
+/// The most bytes of a clip.
+pub const CLIP_LIMIT: u64 = 2 * 1024 * 1024 * 1024;
+
+/// A script and its clip, as they were fetched.
+#[derive(Drop)]
+pub struct Job {
+    pub script: Script,
+    pub bytes: Vec<u8>,
+    pub index: ClipIndex,
+}
+
+/// Fetches a whole file of at most `limit` bytes.
+fn fetch<T: Store>(alloc: Global, store: &mut T, name: &str, limit: u64) -> Result<Vec<u8>, Stop>
+    ensures fetched { IfOk result (λ bytes. T.tells → T.file store.old name.now ≡ Some bytes.items) }
+    ensures size { IfOk result (λ bytes. length bytes.items ≤ limit) }
+    ensures stop { IfErr result (IsUnfetchedStop T.tells (T.file store.old name.now) name.now limit (Rose (T.faults store.old) (T.faults store.new))) }
+    ensures files { (other : List ℕ) → T.file store.new other ≡ T.file store.old other }
+    ensures later { T.faults store.old ≤ T.faults store.new }
+{
+    let mut bytes = Vec::new(alloc);
+    match store.fetch(name, limit, &mut bytes) {
+        Ok(()) => Ok(bytes),
+        Err(FetchFault::NoMemory) => Err(Stop::NoMemory),
+        Err(fault) => Err(Stop::Unfetched {
+            name: String::from_str(alloc, name)?,
+            fault,
+        }),
+    }
+}
+
+/// Reads a script's text.
+fn script_in(alloc: Global, text: &[u8]) -> Result<Script, Stop>
+    ensures { ReadsScript text.now result }
+{
+    match read_script(alloc, text) {
+        Ok(script) => Ok(script),
+        Err(ScriptRefusal::Fault { n, why: _ }) => Err(Stop::Faulty { n }),
+        Err(ScriptRefusal::NoMemory) => Err(Stop::NoMemory),
+    }
+}
+
+/// Finds a clip's record and packets.
+fn index_of(alloc: Global, bytes: &[u8]) -> Result<ClipIndex, Stop>
+    requires { length bytes.now ≤ CLIP_LIMIT }
+    ensures read { ReadsClip bytes.now result }
+    ensures within { IfOk result (λ clip. PlacesLie bytes.now clip) }
+{
+    match read_clip(alloc, bytes) {
+        Ok(index) => Ok(index),
+        Err(ClipFault::Later) => Err(Stop::NotPlain),
+        // No other fault comes than want of memory.
+        Err(_) => Err(Stop::NoMemory),
+    }
+}
+
+/// Fetches and reads the script of this name.
+fn fetch_script<T: Store>(alloc: Global, store: &mut T, name: &str) -> Result<Script, Stop>
+    ensures script { IfOk result (λ script. IsScript T.tells (T.file store.old) name.now (view script)) }
+    ensures stop { IfErr result (StopHasCause T.tells (T.file store.old) name.now (Rose (T.faults store.old) (T.faults store.new))) }
+    ensures files { (other : List ℕ) → T.file store.new other ≡ T.file store.old other }
+    ensures later { T.faults store.old ≤ T.faults store.new }
+{
+    match fetch(alloc, store, name, SCRIPT_LIMIT) {
+        Ok(text) => script_in(alloc, &text),
+        Err(stop) => Err(stop),
+    }
+}
+
+/// Fetches and reads the clip in this file.
+fn fetch_clip<T: Store>(
+    alloc: Global,
+    store: &mut T,
+    file: &str,
+) -> Result<(Vec<u8>, ClipIndex), Stop>
+    ensures fetched { IfOk result (λ clip. T.tells → T.file store.old file.now ≡ Some clip.0.items) }
+    ensures plain { IfOk result (λ clip. IsPlainFile clip.0.items clip.1) }
+    ensures within { IfOk result (λ clip. PlacesLie clip.0.items clip.1) }
+    ensures stop { IfErr result (IsClipStop T.tells (T.file store.old file.now) file.now (Rose (T.faults store.old) (T.faults store.new))) }
+    ensures files { (other : List ℕ) → T.file store.new other ≡ T.file store.old other }
+    ensures later { T.faults store.old ≤ T.faults store.new }
+{
+    match fetch(alloc, store, file, CLIP_LIMIT) {
+        Ok(bytes) => match index_of(alloc, &bytes) {
+            Ok(index) => Ok((bytes, index)),
+            Err(stop) => Err(stop),
+        },
+        Err(stop) => Err(stop),
+    }
+}
+
+/// Fetches the script of this name and then its clip, and reads both.
+pub fn fetch_job<T: Store>(alloc: Global, store: &mut T, name: &str) -> Result<Job, Stop>
+    ensures job { IfOk result (λ job. IsJob T.tells (T.file store.old) name.now (view job.script) job.bytes.items job.index) }
+    ensures stop { IfErr result (StopHasCause T.tells (T.file store.old) name.now (Rose (T.faults store.old) (T.faults store.new))) }
+    ensures within { IfOk result (λ job. PlacesLie job.bytes.items job.index) }
+    ensures files { (other : List ℕ) → T.file store.new other ≡ T.file store.old other }
+    ensures later { T.faults store.old ≤ T.faults store.new }
+{
+    match fetch_script(alloc, store, name) {
+        Ok(script) => match fetch_clip(alloc, store, script.file.as_str()) {
+            Ok((bytes, index)) => Ok(Job {
+                script,
+                bytes,
+                index,
+            }),
+            Err(stop) => Err(stop),
+        },
+        Err(stop) => Err(stop),
+    }
+}
