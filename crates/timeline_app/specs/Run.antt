@@ -7,9 +7,15 @@ use Rattle.tl_ports.specs.Outside.{Rose}
 use Rattle.mkv_read.specs.declared.clip.ClipIndex.{ClipIndex}
 use Rattle.mkv_read.specs.declared.clip.Place.{Place}
 use Rattle.mkv_read.specs.Plain.{IsPlainFile, LiesBefore}
+use Rattle.tl_ports.specs.declared.fault.PutFault.{PutFault}
+use Rattle.tl_ports.specs.declared.fault.PutFault.TheVariants as putting
+use Rattle.mkv_write.specs.declared.fault.WriteFault.{WriteFault}
+use Rattle.mkv_write.specs.declared.fault.WriteFault.TheVariants as writing
 use Rattle.mkv_write.specs.File.{mkv}
-use Rattle.mkv_write.specs.Writing.{IsPrefix}
+use Rattle.mkv_write.specs.Writing.{Writing, IsPrefix, nothing_yet, put_of, file_of}
 use Rattle.timeline_app.specs.declared.script.Script.{Script}
+use Rattle.timeline_app.specs.declared.export.Ending.{Ending}
+use Rattle.timeline_app.specs.declared.export.Ending.TheVariants as endings
 use Rattle.timeline_app.specs.declared.stop.Stop.{Stop}
 use Rattle.timeline_app.specs.declared.stop.Stop.TheVariants as stops
 use Rattle.timeline_app.specs.declared.job.TheConstants.{SCRIPT_LIMIT, CLIP_LIMIT}
@@ -125,6 +131,42 @@ stop_status stops.NoMemory = 5
 abbrev pub Says : (tells : Type 0) (before after text : List ℕ) (rose : Type 0) → Type 0
 Says tells before after text rose = (tells → after ≡ before ++ text) ⊎ (rose × (tells → (count : ℕ) × (after ≡ before ++ take count text)))
 
+-- A writer of the clip's record and size at the script's rate, before any packet.
+abbrev pub started_over : Form → List ℕ → ClipIndex → Writing
+started_over script bytes clip = nothing_yet (bytes_at bytes clip.private) clip.width clip.height script.rate
+
+-- A writer that was given these packets too.
+abbrev pub with_packets : Writing → List (List ℕ) → Writing
+with_packets w packets = record w { packets = w.packets ++ packets }
+
+-- The packets were given to the writer, or after a fault some front of the file over some of them was put.
+abbrev pub AddsPackets : (tells : Type 0) (held : List ℕ) → Writing → List (List ℕ) → Result Unit WriteFault → Type 0
+AddsPackets tells held w packets (Ok done) = tells → held ≡ put_of (with_packets w packets)
+AddsPackets tells held w packets (Err fault) = tells → (count : ℕ) × (count ≤ length packets) × IsPrefix held (file_of (with_packets w (take count packets)))
+
+-- The packets of a clip were written, whole, or after a fault some front of the file over some of them.
+abbrev pub WritesExport : (tells : Type 0) (held : List ℕ) → Form → List ℕ → ClipIndex → Result ℕ WriteFault → Type 0
+WritesExport tells held script bytes clip (Ok frames) = (frames ≡ script.len) × (tells → held ≡ export_of script bytes clip)
+WritesExport tells held script bytes clip (Err fault) = tells → IsPartial held script bytes clip
+
+-- How an export ended: the file is whole; or the vault's count rose, or memory ran out.
+abbrev pub EndsExport : (tells : Type 0) (file : List ℕ → Option (List ℕ)) (rose : Type 0) → Form → List ℕ → ClipIndex → Ending → Type 0
+EndsExport tells file rose script bytes clip (endings.Done frames) = (frames ≡ script.len) × (tells → file script.export ≡ Some (export_of script bytes clip))
+EndsExport tells file rose script bytes clip endings.Sink = rose
+EndsExport tells file rose script bytes clip endings.NoMemory = Unit {0}
+
+-- A fault of the writing stands before one of the file's end.
+abbrev pub ending_of : Result ℕ WriteFault → Result Unit PutFault → Ending
+ending_of (Err writing.Sink) ended = endings.Sink
+ending_of (Err writing.NoMemory) ended = endings.NoMemory
+ending_of (Ok frames) (Ok done) = endings.Done frames
+ending_of (Ok frames) (Err putting.Failed) = endings.Sink
+ending_of (Ok frames) (Err putting.NoMemory) = endings.NoMemory
+
+-- The export's file is as before, or it holds some front of the file over some packets.
+abbrev pub ChangesExport : (tells : Type 0) (old new : Option (List ℕ)) → Form → List ℕ → ClipIndex → Type 0
+ChangesExport tells old new script bytes clip = tells → (new ≡ old) ⊎ ((held : List ℕ) × (new ≡ Some held) × IsPartial held script bytes clip)
+
 -- The script was played and its export was written.
 pub record Exports (vault_tells : Type 0) (file : List ℕ → Option (List ℕ)) (out_tells : Type 0) (before after : List ℕ) (script : Form) (bytes : List ℕ) (clip : ClipIndex) : Type 0 where
   pub inside : IsInside script clip
@@ -136,11 +178,6 @@ pub record Refuses (vault_tells : Type 0) (old new : List ℕ → Option (List �
   pub outside : length clip.packets < script.len
   pub lines : out_tells → after ≡ before ++ refused_lines
   pub files : vault_tells → (name : List ℕ) → new name ≡ old name
-
--- A file of the vault is as before, or it is the export's and holds some front of it.
-abbrev pub ChangesExport : (tells : Type 0) (old new : List ℕ → Option (List ℕ)) → Form → List ℕ → ClipIndex → Type 0
-ChangesExport tells old new script bytes clip = tells → (name : List ℕ) → (new name ≡ old name)
-    ⊎ ((name ≡ script.export) × IsInside script clip × ((held : List ℕ) × (new name ≡ Some held) × IsPartial held script bytes clip))
 
 -- The script couldn't be played to its end, or its export not be written: the count of `out` or of the vault rose.
 abbrev pub PlayFails : (vault_rose out_rose out_tells : Type 0) (before after : List ℕ) → Form → ClipIndex → Type 0

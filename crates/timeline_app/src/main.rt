@@ -1,6 +1,7 @@
 //! `timeline`: cuts lossless archive video.
 #![tactic(auto)]
 
+mod export;
 mod job;
 mod lines;
 mod parse;
