@@ -2,3 +2,5 @@ pub mod Digits
 pub mod Text
 pub mod Stops
 pub mod Exporting
+pub mod Saying
+pub mod Running

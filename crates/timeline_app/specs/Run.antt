@@ -3,7 +3,7 @@ use Rattle.std.specs.Prelude.{◌≡◌, ◌≢◌, ◌⊎◌, ℕ, ◌<◌, ◌
 use Rattle.std.specs.List.{AllByRecursion}
 use Rattle.tl_ports.specs.declared.fault.FetchFault.{FetchFault}
 use Rattle.tl_ports.specs.declared.fault.FetchFault.TheVariants as fetching
-use Rattle.tl_ports.specs.Outside.{Rose}
+use Rattle.tl_ports.specs.Outside.{Rose, KeepsOthers}
 use Rattle.mkv_read.specs.declared.clip.ClipIndex.{ClipIndex}
 use Rattle.mkv_read.specs.declared.clip.Place.{Place}
 use Rattle.mkv_read.specs.Plain.{IsPlainFile, LiesBefore}
@@ -21,7 +21,7 @@ use Rattle.timeline_app.specs.declared.stop.Stop.TheVariants as stops
 use Rattle.timeline_app.specs.declared.job.TheConstants.{SCRIPT_LIMIT, CLIP_LIMIT}
 use Rattle.timeline_app.specs.Script.{Form, script_of}
 use Rattle.timeline_app.specs.Reading.{view}
-use Rattle.timeline_app.specs.Lines.{usage_line, ok_line, asked_line, done_line, sink_line, refused_lines, fault_line, clip_fault_line, store_line, memory_line}
+use Rattle.timeline_app.specs.Lines.{usage_line, ok_line, asked_line, done_line, sink_line, refused_lines, fault_line, clip_fault_line, store_line, memory_line, export_memory_line}
 
 -- The name of the script: the words are of the form where there is one, which doesn't begin with `-`.
 unfoldable pub script_name : List (List ℕ) → Option (List ℕ)
@@ -127,10 +127,6 @@ stop_status (stops.Faulty n) = 3
 stop_status stops.NotPlain = 3
 stop_status stops.NoMemory = 5
 
--- A text was put, whole, or where the count rose some front of it.
-abbrev pub Says : (tells : Type 0) (before after text : List ℕ) (rose : Type 0) → Type 0
-Says tells before after text rose = (tells → after ≡ before ++ text) ⊎ (rose × (tells → (count : ℕ) × (after ≡ before ++ take count text)))
-
 -- A writer of the clip's record and size at the script's rate, before any packet.
 abbrev pub started_over : Form → List ℕ → ClipIndex → Writing
 started_over script bytes clip = nothing_yet (bytes_at bytes clip.private) clip.width clip.height script.rate
@@ -167,19 +163,72 @@ ending_of (Ok frames) (Err putting.NoMemory) = endings.NoMemory
 abbrev pub ChangesExport : (tells : Type 0) (old new : Option (List ℕ)) → Form → List ℕ → ClipIndex → Type 0
 ChangesExport tells old new script bytes clip = tells → (new ≡ old) ⊎ ((held : List ℕ) × (new ≡ Some held) × IsPartial held script bytes clip)
 
--- The script was played and its export was written.
-pub record Exports (vault_tells : Type 0) (file : List ℕ → Option (List ℕ)) (out_tells : Type 0) (before after : List ℕ) (script : Form) (bytes : List ℕ) (clip : ClipIndex) : Type 0 where
-  pub inside : IsInside script clip
-  pub lines : out_tells → after ≡ before ++ (ok_line script.len ++ asked_line ++ done_line script.len)
-  pub written : vault_tells → file script.export ≡ Some (export_of script bytes clip)
+-- A text was put, whole, or some front of it where the count rose or memory ran out.
+abbrev pub Says : (tells : Type 0) (before after text : List ℕ) (rose : Type 0) → Result Unit PutFault → Type 0
+Says tells before after text rose (Ok done) = tells → after ≡ before ++ text
+Says tells before after text rose (Err putting.Failed) = rose × (tells → (count : ℕ) × (after ≡ before ++ take count text))
+Says tells before after text rose (Err putting.NoMemory) = tells → (count : ℕ) × (after ≡ before ++ take count text)
 
--- The script was played and its insert was refused, so that nothing was exported.
-pub record Refuses (vault_tells : Type 0) (old new : List ℕ → Option (List ℕ)) (out_tells : Type 0) (before after : List ℕ) (script : Form) (clip : ClipIndex) : Type 0 where
-  pub outside : length clip.packets < script.len
-  pub lines : out_tells → after ≡ before ++ refused_lines
-  pub files : vault_tells → (name : List ℕ) → new name ≡ old name
+-- The line that says how the export ended.
+abbrev pub ending_line : Ending → List ℕ
+ending_line (endings.Done frames) = done_line frames
+ending_line endings.Sink = sink_line
+ending_line endings.NoMemory = export_memory_line
 
--- The script couldn't be played to its end, or its export not be written: the count of `out` or of the vault rose.
-abbrev pub PlayFails : (vault_rose out_rose out_tells : Type 0) (before after : List ℕ) → Form → ClipIndex → Type 0
-PlayFails vault_rose out_rose out_tells before after script clip =
-    out_rose ⊎ (vault_rose × IsInside script clip × (out_tells → after ≡ before ++ (ok_line script.len ++ asked_line ++ sink_line)))
+-- What `out` gets from the line of the ask on, where the export ended so.
+abbrev pub asked_lines : Ending → List ℕ
+asked_lines ending = asked_line ++ ending_line ending
+
+-- What `out` gets of a script of so many frames whose export ended so.
+abbrev pub export_lines : (frames : ℕ) → Ending → List ℕ
+export_lines frames ending = ok_line frames ++ asked_lines ending
+
+-- The status of a session that a line stopped.
+abbrev pub fault_status : PutFault → ℕ
+fault_status putting.Failed = 4
+fault_status putting.NoMemory = 5
+
+-- The status of a session whose lines were all put, by its export.
+abbrev pub ending_status : Ending → ℕ
+ending_status (endings.Done frames) = 0
+ending_status endings.Sink = 4
+ending_status endings.NoMemory = 5
+
+-- What an export did that was asked for, by the status. `lines` is what `out` was to get, by how the export ended.
+pub record PlaysExport (vault_tells vault_rose : Type 0) (old new : List ℕ → Option (List ℕ)) (out_tells out_rose : Type 0) (before after : List ℕ)
+    (lines : Ending → List ℕ) (script : Form) (bytes : List ℕ) (clip : ClipIndex) (status : ℕ) : Type 0 where
+  -- every line was put, and the file is whole
+  pub done : status ≡ 0 → (out_tells → after ≡ before ++ lines (endings.Done script.len)) × (vault_tells → new script.export ≡ Some (export_of script bytes clip))
+  -- `out` failed; or the vault did, and `out` says so
+  pub failed : status ≡ 4 → out_rose ⊎ (vault_rose × (out_tells → after ≡ before ++ lines endings.Sink))
+  pub no_other : (status ≡ 0) ⊎ ((status ≡ 4) ⊎ (status ≡ 5))
+  -- whatever the status, the file is as before or holds some front of the export, and no other changed
+  pub file : ChangesExport vault_tells (old script.export) (new script.export) script bytes clip
+  pub files : KeepsOthers vault_tells script.export old new
+
+-- What an insert past the clip's end did, by the status: it was refused, and nothing was exported.
+pub record PlaysRefusal (out_tells out_rose : Type 0) (before after : List ℕ) (status : ℕ) : Type 0 where
+  pub done : status ≡ 0 → out_tells → after ≡ before ++ refused_lines
+  pub failed : status ≡ 4 → out_rose
+  pub no_other : (status ≡ 0) ⊎ ((status ≡ 4) ⊎ (status ≡ 5))
+
+-- What playing a script did, by the status: its frames lie within the clip and it was exported, or they don't and it was refused.
+abbrev pub Plays : (vault_tells vault_rose : Type 0) (old new : List ℕ → Option (List ℕ)) (out_tells out_rose : Type 0) (before after : List ℕ)
+    (script : Form) (bytes : List ℕ) (clip : ClipIndex) (status : ℕ) → Type 0
+Plays vault_tells vault_rose old new out_tells out_rose before after script bytes clip status =
+    (IsInside script clip × PlaysExport vault_tells vault_rose old new out_tells out_rose before after (export_lines script.len) script bytes clip status)
+    ⊎ ((length clip.packets < script.len) × PlaysRefusal out_tells out_rose before after status × (vault_tells → (name : List ℕ) → new name ≡ old name))
+
+-- A text was put, whole, or some front of it where the count rose.
+abbrev pub Puts : (tells rose : Type 0) (before after text : List ℕ) → Type 0
+Puts tells rose before after text = (tells → after ≡ before ++ text) ⊎ (rose × (tells → (count : ℕ) × (after ≡ before ++ take count text)))
+
+-- A session ended before its start with this status, once this text was put; or memory ran out.
+abbrev pub StopsWith : (tells rose : Type 0) (before after text : List ℕ) (status result : ℕ) → Type 0
+StopsWith tells rose before after text status result = (result ≡ 5) ⊎ ((result ≡ status) × Puts tells rose before after text)
+
+-- The status after the last line, which was put so.
+abbrev pub status_after : Result Unit PutFault → ℕ → ℕ
+status_after (Ok done) status = status
+status_after (Err putting.Failed) status = status
+status_after (Err putting.NoMemory) status = 5

@@ -1,7 +1,7 @@
 //! The lines that the program puts out.
 
 ghost use Rattle.std.specs.Prelude.{◌≡◌, IfOk, string_bytes, ◌++◌};
-ghost use Rattle.timeline_app.specs.Lines.{ok_line, done_line, fault_line, store_line, usage_line, asked_line, sink_line, refused_lines, clip_fault_line, kind_of};
+ghost use Rattle.timeline_app.specs.Lines.{ok_line, done_line, fault_line, store_line, usage_line, asked_line, sink_line, refused_lines, clip_fault_line, kind_of, memory_line, export_memory_line};
 
 use std::alloc::{AllocError, Global};
 use tl_ports::FetchFault;
@@ -60,4 +60,39 @@ pub fn refused_lines() -> (&'static str, &'static str)
     ensures { result.0.now ++ result.1.now ≡ refused_lines }
 {
     ("refused OutsideClip\n", "refused EmptyTimeline\n")
+}
+
+#[tactic(auto, unfolding(crate::specs::Lines::asked_line))]
+pub fn asked_line() -> &'static str
+    ensures { result.now ≡ asked_line }
+{
+    "asked 1\n"
+}
+
+#[tactic(auto, unfolding(crate::specs::Lines::sink_line))]
+pub fn sink_line() -> &'static str
+    ensures { result.now ≡ sink_line }
+{
+    "export 1 sink\n"
+}
+
+#[tactic(auto, unfolding(crate::specs::Lines::export_memory_line))]
+pub fn export_memory_line() -> &'static str
+    ensures { result.now ≡ export_memory_line }
+{
+    "export 1 memory\n"
+}
+
+#[tactic(auto, unfolding(crate::specs::Lines::clip_fault_line))]
+pub fn clip_fault_line() -> &'static str
+    ensures { result.now ≡ clip_fault_line }
+{
+    "fault line 2 clip Later\n"
+}
+
+#[tactic(auto, unfolding(crate::specs::Lines::memory_line))]
+pub fn memory_line() -> &'static str
+    ensures { result.now ≡ memory_line }
+{
+    "no memory\n"
 }

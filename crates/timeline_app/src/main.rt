@@ -5,6 +5,9 @@ mod export;
 mod job;
 mod lines;
 mod parse;
+mod play;
+mod run;
+mod say;
 mod script;
 mod stop;
 

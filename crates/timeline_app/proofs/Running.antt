@@ -1,0 +1,158 @@
+-- What a run did, from what its parts did.
+use Rattle.std.proofs.Common.{◌≡◌, ◌⊎◌, ◌≢◌, ℕ, ◌+◌, ◌≤◌, ◌<◌, Bool, true, false, List, [], ◌++◌, length, take, Option, Some, None, Result, Ok, Err, refl, sym, ap, ◌∙◌, subst, inl, inr, arith}
+use Rattle.std.specs.Str.{bytes_eq}
+use Rattle.std.proofs.lemmas.Slice.Eq.{bytes_eq-Decides}
+use Rattle.tl_ports.specs.Outside.{Rose, KeepsOthers}
+use Rattle.tl_ports.specs.declared.fault.PutFault.{PutFault}
+use Rattle.tl_ports.specs.declared.fault.PutFault.TheVariants as putting
+use Rattle.mkv_read.specs.declared.clip.ClipIndex.{ClipIndex}
+use Rattle.timeline_app.specs.declared.stop.Stop.{Stop}
+use Rattle.timeline_app.specs.declared.stop.Stop.TheVariants as stops
+use Rattle.timeline_app.specs.declared.export.Ending.TheVariants as endings
+use Rattle.timeline_app.specs.Script.{Form}
+use Rattle.timeline_app.specs.Lines.{usage_line}
+use Rattle.timeline_app.specs.Run.{IsJob, IsInside, IsPartial, Says, Puts, StopsWith, StopHasCause, stop_line, stop_status, status_after, ChangesExport, Plays, PlaysExport, PlaysRefusal, export_lines}
+use Rattle.timeline_app.specs.Top.{Works, Played, Stopped, Unsunk, ChangesOnlyExport, Runs}
+
+-- The last line decides only between its status and want of memory.
+pub stops_with : (tells rose : Type 0) (before after text : List ℕ) (said : Result Unit PutFault) (status : ℕ) → Says tells before after text rose said → StopsWith tells rose before after text status (status_after said status)
+stops_with tells rose before after text (Ok done) status h = inr (refl, inl h)
+stops_with tells rose before after text (Err putting.Failed) status h = inr (refl, inr h)
+stops_with tells rose before after text (Err putting.NoMemory) status h = inl refl
+
+-- The words aren't of the form.
+pub run_misused : (tells rose : Type 0) (file : List ℕ → Option (List ℕ)) (vault_tells vault_rose : Type 0) (old : List ℕ → Option (List ℕ)) (out_tells out_rose : Type 0) (before after : List ℕ) (status : ℕ)
+    → StopsWith out_tells out_rose before after usage_line 2 status → Runs None tells rose file vault_tells vault_rose old old out_tells out_rose before after status
+run_misused tells rose file vt vr old ot or before after status (inl memory) = record {
+  played = λ e. absurd (omega (arith, e, memory));
+  misused = λ e. absurd (omega (arith, e, memory));
+  faulty = λ e. absurd (omega (arith, e, memory));
+  outside = λ e. absurd (omega (arith, e, memory));
+  no_other = inr (inr (inr (inr memory)));
+  usage = λ _. inr memory;
+  files = λ told other. inl refl;
+}
+run_misused tells rose file vt vr old ot or before after status (inr h) = record {
+  played = λ e. absurd (omega (arith, e, h.0));
+  misused = λ _. (refl, h.1);
+  faulty = λ e. absurd (omega (arith, e, h.0));
+  outside = λ e. absurd (omega (arith, e, h.0));
+  no_other = inr (inl h.0);
+  usage = λ _. inl h.0;
+  files = λ told other. inl refl;
+}
+
+-- a name that is there is none that isn't
+named : {A : Type 0} (name : List ℕ) → Some name ≡ None → A
+named name e = absurd cc
+
+-- The session didn't start, for want of memory.
+early_memory : (name : List ℕ) (tells rose : Type 0) (file : List ℕ → Option (List ℕ)) (vault_tells vault_rose : Type 0) (old : List ℕ → Option (List ℕ)) (out_tells out_rose : Type 0) (before after : List ℕ) (status : ℕ)
+    → status ≡ 5 → Runs (Some name) tells rose file vault_tells vault_rose old old out_tells out_rose before after status
+early_memory name tells rose file vt vr old ot or before after status memory = record {
+  played = λ e. absurd (omega (arith, e, memory));
+  misused = λ e. absurd (omega (arith, e, memory));
+  faulty = λ e. absurd (omega (arith, e, memory));
+  outside = λ e. absurd (omega (arith, e, memory));
+  no_other = inr (inr (inr (inr memory)));
+  usage = λ e. named name e;
+  files = λ told other. inl refl;
+}
+
+-- The session didn't start, for a cause of status 3 or 4.
+early_three : (name : List ℕ) (tells rose : Type 0) (file : List ℕ → Option (List ℕ)) (vault_tells vault_rose : Type 0) (old : List ℕ → Option (List ℕ)) (out_tells out_rose : Type 0) (before after : List ℕ) (status : ℕ)
+    → status ≡ 3 → Stopped 3 (Some name) tells rose file out_tells out_rose before after → Runs (Some name) tells rose file vault_tells vault_rose old old out_tells out_rose before after status
+early_three name tells rose file vt vr old ot or before after status three h = record {
+  played = λ e. absurd (omega (arith, e, three));
+  misused = λ e. absurd (omega (arith, e, three));
+  faulty = λ _. h;
+  outside = λ e. absurd (omega (arith, e, three));
+  no_other = inr (inr (inl three));
+  usage = λ e. named name e;
+  files = λ told other. inl refl;
+}
+
+early_four : (name : List ℕ) (tells rose : Type 0) (file : List ℕ → Option (List ℕ)) (vault_tells vault_rose : Type 0) (old : List ℕ → Option (List ℕ)) (out_tells out_rose : Type 0) (before after : List ℕ) (status : ℕ)
+    → status ≡ 4 → Stopped 4 (Some name) tells rose file out_tells out_rose before after → Runs (Some name) tells rose file vault_tells vault_rose old old out_tells out_rose before after status
+early_four name tells rose file vt vr old ot or before after status four h = record {
+  played = λ e. absurd (omega (arith, e, four));
+  misused = λ e. absurd (omega (arith, e, four));
+  faulty = λ e. absurd (omega (arith, e, four));
+  outside = λ _. inr (inl h);
+  no_other = inr (inr (inr (inl four)));
+  usage = λ e. named name e;
+  files = λ told other. inl refl;
+}
+
+-- The session didn't start.
+pub run_stopped : (name : List ℕ) (tells rose : Type 0) (file : List ℕ → Option (List ℕ)) (vault_tells vault_rose : Type 0) (old : List ℕ → Option (List ℕ)) (out_tells out_rose : Type 0) (before after : List ℕ) (stop : Stop) (status : ℕ)
+    → StopHasCause tells file name rose stop → StopsWith out_tells out_rose before after (stop_line stop) (stop_status stop) status
+    → Runs (Some name) tells rose file vault_tells vault_rose old old out_tells out_rose before after status
+run_stopped name tells rose file vt vr old ot or before after stop status cause (inl memory) = early_memory name tells rose file vt vr old ot or before after status memory
+run_stopped name tells rose file vt vr old ot or before after (stops.Unfetched of fault) status cause (inr h) =
+    early_four name tells rose file vt vr old ot or before after status h.0 (record { of = name; named = refl; stop = stops.Unfetched of fault; cause = cause; status_is = refl; line = h.1 })
+run_stopped name tells rose file vt vr old ot or before after (stops.Faulty n) status cause (inr h) =
+    early_three name tells rose file vt vr old ot or before after status h.0 (record { of = name; named = refl; stop = stops.Faulty n; cause = cause; status_is = refl; line = h.1 })
+run_stopped name tells rose file vt vr old ot or before after stops.NotPlain status cause (inr h) =
+    early_three name tells rose file vt vr old ot or before after status h.0 (record { of = name; named = refl; stop = stops.NotPlain; cause = cause; status_is = refl; line = h.1 })
+run_stopped name tells rose file vt vr old ot or before after stops.NoMemory status cause (inr h) = early_memory name tells rose file vt vr old ot or before after status h.0
+
+-- Playing has no other status than 0, 4 and 5.
+apart : {A : Type 0} (status other : ℕ) → (status ≡ 0) ⊎ ((status ≡ 4) ⊎ (status ≡ 5)) → (other ≡ 2) ⊎ (other ≡ 3) → status ≡ other → A
+apart status other (inl zero) (inl two) e = absurd (omega (arith, zero, two, e))
+apart status other (inl zero) (inr three) e = absurd (omega (arith, zero, three, e))
+apart status other (inr (inl four)) (inl two) e = absurd (omega (arith, four, two, e))
+apart status other (inr (inl four)) (inr three) e = absurd (omega (arith, four, three, e))
+apart status other (inr (inr five)) (inl two) e = absurd (omega (arith, five, two, e))
+apart status other (inr (inr five)) (inr three) e = absurd (omega (arith, five, three, e))
+
+one_of : (status : ℕ) → (status ≡ 0) ⊎ ((status ≡ 4) ⊎ (status ≡ 5)) → (status ≡ 0) ⊎ ((status ≡ 2) ⊎ ((status ≡ 3) ⊎ ((status ≡ 4) ⊎ (status ≡ 5))))
+one_of status (inl zero) = inl zero
+one_of status (inr h) = inr (inr (inr h))
+
+-- A file is the export's or another.
+changes : (name : List ℕ) (tells : Type 0) (file : List ℕ → Option (List ℕ)) (vault_tells : Type 0) (old new : List ℕ → Option (List ℕ)) (script : Form) (bytes : List ℕ) (clip : ClipIndex)
+    → Works (Some name) tells file script bytes clip → IsInside script clip → ChangesExport vault_tells (old script.export) (new script.export) script bytes clip → KeepsOthers vault_tells script.export old new
+    → ChangesOnlyExport (Some name) tells file vault_tells old new
+changes name tells file vt old new script bytes clip works inside own others told other = at (bytes_eq other script.export) refl
+  where
+    at : (b : Bool) → bytes_eq other script.export ≡ b → (new other ≡ old other)
+        ⊎ ((script : Form) × (bytes : List ℕ) × (clip : ClipIndex) × Works (Some name) tells file script bytes clip × IsInside script clip × (other ≡ script.export)
+        × ((held : List ℕ) × (new other ≡ Some held) × IsPartial held script bytes clip))
+    at true e =
+        let same : other ≡ script.export = (bytes_eq-Decides other script.export).0 e in
+        elim (own told) [
+          | inl kept ↦ inl (ap new same ∙ kept ∙ ap old (sym same))
+          | inr held ↦ inr (script, bytes, clip, works, inside, same, (held.0, ap new same ∙ held.1, held.2))
+        ]
+    at false e = inl (others told other (λ same. let yes : bytes_eq other script.export ≡ true = (bytes_eq-Decides other script.export).1 same in absurd (cc)))
+
+-- The script was played.
+pub run_played : (name : List ℕ) (tells rose : Type 0) (file : List ℕ → Option (List ℕ)) (vault_tells vault_rose : Type 0) (old new : List ℕ → Option (List ℕ)) (out_tells out_rose : Type 0) (before after : List ℕ)
+    (script : Form) (bytes : List ℕ) (clip : ClipIndex) (status : ℕ) → IsJob tells file name script bytes clip → Plays vault_tells vault_rose old new out_tells out_rose before after script bytes clip status
+    → Runs (Some name) tells rose file vault_tells vault_rose old new out_tells out_rose before after status
+run_played name tells rose file vt vr old new ot or before after script bytes clip status job (inl (inside, h)) =
+    let works : Works (Some name) tells file script bytes clip = record { of = name; named = refl; job = job } in
+    record {
+      played = λ e. (script, bytes, clip, works, inl (inside, (h.done e).0, (h.done e).1));
+      misused = λ e. apart status 2 h.no_other (inl refl) e;
+      faulty = λ e. apart status 3 h.no_other (inr refl) e;
+      outside = λ e. elim (h.failed e) [
+        | inl r ↦ inl r
+        | inr v ↦ inr (inr (record { script = script; bytes = bytes; clip = clip; works = works; inside = inside; rose = v.0; lines = v.1 }))
+      ];
+      no_other = one_of status h.no_other;
+      usage = λ e. named name e;
+      files = changes name tells file vt old new script bytes clip works inside h.file h.files;
+    }
+run_played name tells rose file vt vr old new ot or before after script bytes clip status job (inr (outside, h, files)) =
+    let works : Works (Some name) tells file script bytes clip = record { of = name; named = refl; job = job } in
+    record {
+      played = λ e. (script, bytes, clip, works, inr (outside, h.done e, files));
+      misused = λ e. apart status 2 h.no_other (inl refl) e;
+      faulty = λ e. apart status 3 h.no_other (inr refl) e;
+      outside = λ e. inl (h.failed e);
+      no_other = one_of status h.no_other;
+      usage = λ e. named name e;
+      files = λ told other. inl (files told other);
+    }

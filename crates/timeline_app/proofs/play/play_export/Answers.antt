@@ -1,0 +1,34 @@
+use Rattle.std.proofs.Common.{refl, inl}
+use Rattle.tl_ports.specs.Outside.{Rose}
+use Rattle.timeline_app.specs.Reading.{view}
+use Rattle.timeline_app.specs.Lines.{ok_line}
+use Rattle.timeline_app.specs.Run.{asked_lines, export_lines}
+use Rattle.timeline_app.proofs.Stops.{rose_later}
+use Rattle.timeline_app.proofs.Saying.{export_after, export_stopped}
+use Rattle.timeline_app.proofs.play.play_export.Goals as goal
+
+pub returns-in-Ok-clause-plays : goal.returns-in-Ok-clause-plays
+returns-in-Ok-clause-plays g c =
+    let V = g.V.Vault in
+    let O = g.O.Sink in
+    let job = c.args.job.now in
+    let vault = c.play_asked.new.vault in
+    let old = c.args.out.now in
+    let mid = c.say_made.new.out in
+    let new = c.play_asked.new.out in
+    export_after V.tells (Rose (V.faults c.args.vault.now) (V.faults vault)) (V.file c.args.vault.now) (V.file vault) O.tells (Rose (O.faults mid) (O.faults new)) (Rose (O.faults old) (O.faults new))
+    (O.contents old) (O.contents mid) (O.contents new) (ok_line job.script.len) asked_lines (export_lines job.script.len) (view job.script) job.bytes.items job.index c.play_asked.result
+    (c.in-Ok.ensures.said (ok_line job.script.len) c.ok_line.ensures) (rose_later (O.faults old) (O.faults mid) (O.faults new) c.in-Ok.ensures.later) (λ ending. refl) c.play_asked.ensures.plays
+
+pub returns-in-Err-clause-plays : goal.returns-in-Err-clause-plays
+returns-in-Err-clause-plays g c =
+    let V = g.V.Vault in
+    let O = g.O.Sink in
+    let job = c.args.job.now in
+    let file = V.file c.args.vault.now in
+    let old = c.args.out.now in
+    let new = c.say_made.new.out in
+    rw c.fault_status.ensures
+    (export_stopped V.tells (Rose (V.faults c.args.vault.now) (V.faults c.args.vault.now)) file file O.tells (Rose (O.faults old) (O.faults new)) (Rose (O.faults old) (O.faults new))
+    (O.contents old) (O.contents new) (O.contents new) (export_lines job.script.len) (view job.script) job.bytes.items job.index (ok_line job.script.len) c.in-Err.fault
+    (c.in-Err.ensures.said (ok_line job.script.len) c.ok_line.ensures) (λ rose. rose) (λ told. inl refl) (λ told other ne. refl))

@@ -1,0 +1,96 @@
+//! Playing a script of the form: the insert, and the export or its refusal.
+
+ghost use Rattle.std.specs.Prelude.{◌≡◌, ◌≤◌, None};
+ghost use Rattle.tl_ports.specs.Outside.{Rose};
+ghost use Rattle.mkv_read.specs.Plain.{IsPlainFile};
+ghost use Rattle.timeline_app.specs.Reading.{view};
+ghost use Rattle.timeline_app.specs.Run.{IsInside, PlacesLie, Plays, PlaysExport, PlaysRefusal, asked_lines, export_lines, fault_status, ending_status};
+
+use crate::export::{Ending, export};
+use crate::job::Job;
+use crate::lines::{asked_line, ok_line};
+use crate::say::{say, say_ending, say_made, say_refused};
+use std::alloc::Global;
+use tl_ports::{PutFault, Sink, Vault};
+
+/// The status of a session that a line stopped.
+fn fault_status(fault: PutFault) -> u8
+    ensures { result ≡ fault_status fault }
+{
+    match fault {
+        PutFault::Failed => 4,
+        PutFault::NoMemory => 5,
+    }
+}
+
+/// The status of a session whose lines were all put, by its export.
+fn ending_status(ending: Ending) -> u8
+    ensures { result ≡ ending_status ending }
+{
+    match ending {
+        Ending::Done { frames: _ } => 0,
+        Ending::Sink => 4,
+        Ending::NoMemory => 5,
+    }
+}
+
+/// Asks for the export and carries it out. It is carried out also where the line of the ask isn't put.
+fn play_asked<V: Vault, O: Sink>(alloc: Global, job: &Job, vault: &mut V, out: &mut O) -> u8
+    requires idle { V.begun vault.old ≡ None }
+    requires plain { IsPlainFile job.now.bytes.items job.now.index }
+    requires places { PlacesLie job.now.bytes.items job.now.index }
+    requires inside { IsInside (view job.now.script) job.now.index }
+    ensures plays { PlaysExport V.tells (Rose (V.faults vault.old) (V.faults vault.new)) (V.file vault.old) (V.file vault.new) O.tells (Rose (O.faults out.old) (O.faults out.new)) (O.contents out.old) (O.contents out.new) asked_lines (view job.now.script) job.now.bytes.items job.now.index result }
+    ensures idle { V.begun vault.new ≡ None }
+    ensures later { O.faults out.old ≤ O.faults out.new }
+{
+    let asked = say(out, asked_line());
+    let ending = export(alloc, job, vault);
+    match asked {
+        Err(fault) => fault_status(fault),
+        Ok(()) => match say_ending(alloc, out, ending) {
+            Err(fault) => fault_status(fault),
+            Ok(()) => ending_status(ending),
+        },
+    }
+}
+
+/// Inserts the clip's first frames, and exports them.
+fn play_export<V: Vault, O: Sink>(alloc: Global, job: &Job, vault: &mut V, out: &mut O) -> u8
+    requires idle { V.begun vault.old ≡ None }
+    requires plain { IsPlainFile job.now.bytes.items job.now.index }
+    requires places { PlacesLie job.now.bytes.items job.now.index }
+    requires inside { IsInside (view job.now.script) job.now.index }
+    ensures plays { PlaysExport V.tells (Rose (V.faults vault.old) (V.faults vault.new)) (V.file vault.old) (V.file vault.new) O.tells (Rose (O.faults out.old) (O.faults out.new)) (O.contents out.old) (O.contents out.new) (export_lines job.now.script.len) (view job.now.script) job.now.bytes.items job.now.index result }
+    ensures idle { V.begun vault.new ≡ None }
+{
+    match say_made(out, ok_line(alloc, job.script.len)) {
+        Err(fault) => fault_status(fault),
+        Ok(()) => play_asked(alloc, job, vault, out),
+    }
+}
+
+/// Refuses an insert past the clip's end, and the export of the empty timeline.
+fn play_refusal<O: Sink>(out: &mut O) -> u8
+    ensures { PlaysRefusal O.tells (Rose (O.faults out.old) (O.faults out.new)) (O.contents out.old) (O.contents out.new) result }
+{
+    match say_refused(out) {
+        Ok(()) => 0,
+        Err(fault) => fault_status(fault),
+    }
+}
+
+/// Plays the script, and answers the status.
+pub fn play<V: Vault, O: Sink>(alloc: Global, job: &Job, vault: &mut V, out: &mut O) -> u8
+    requires idle { V.begun vault.old ≡ None }
+    requires plain { IsPlainFile job.now.bytes.items job.now.index }
+    requires places { PlacesLie job.now.bytes.items job.now.index }
+    ensures plays { Plays V.tells (Rose (V.faults vault.old) (V.faults vault.new)) (V.file vault.old) (V.file vault.new) O.tells (Rose (O.faults out.old) (O.faults out.new)) (O.contents out.old) (O.contents out.new) (view job.now.script) job.now.bytes.items job.now.index result }
+    ensures idle { V.begun vault.new ≡ None }
+{
+    if job.script.len as usize <= job.index.packets.as_slice().len() {
+        play_export(alloc, job, vault, out)
+    } else {
+        play_refusal(out)
+    }
+}

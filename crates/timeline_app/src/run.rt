@@ -1,0 +1,187 @@
+//! The top call.
+
+ghost use Rattle.std.specs.Prelude.{◌≡◌, ◌⊎◌, ◌==◌, ℕ, List, Some, None, map, option_map, slice_index, string_bytes};
+ghost use Rattle.tl_ports.specs.Outside.{Rose};
+ghost use Rattle.timeline_app.specs.Lines.{usage_line};
+ghost use Rattle.timeline_app.specs.Run.{script_name, Says, Puts, StopsWith, stop_line, stop_status, status_after};
+ghost use Rattle.timeline_app.specs.Top.{Runs, Works, Played, Stopped, Unsunk, ChangesOnlyExport};
+ghost use Rattle.mkv_read.specs.declared.clip.ClipIndex.{ClipIndex};
+ghost use Rattle.timeline_app.specs.Script.{Form};
+
+use crate::job::fetch_job;
+use crate::lines::{clip_fault_line, fault_line, memory_line, store_line, usage_line};
+use crate::play::play;
+use crate::say::{say, say_made};
+use crate::stop::Stop;
+use std::alloc::Global;
+use tl_ports::{PutFault, Sink, Store, Vault};
+
+/// The name of the script, where the words are of the form.
+#[tactic(auto, unfolding(crate::specs::Run::script_name))]
+fn script_name(words: &[String]) -> Option<&str>
+    ensures { option_map (λ name. name.now) result ≡ script_name (map string_bytes words.now) }
+{
+    let [word] = words else {
+        return None;
+    };
+    if is_option(word.as_str()) {
+        None
+    } else {
+        Some(word.as_str())
+    }
+}
+
+/// Whether a word begins as an option does.
+fn is_option(word: &str) -> bool
+    ensures { result ≡ (slice_index word.now 0 == 45) }
+{
+    match word.as_bytes() {
+        [] => false,
+        [first, ..] => *first == b'-',
+    }
+}
+
+/// Says why the session doesn't start.
+fn say_stop<O: Sink>(alloc: Global, out: &mut O, stop: &Stop) -> Result<(), PutFault>
+    ensures { Says O.tells (O.contents out.old) (O.contents out.new) (stop_line stop.now) (Rose (O.faults out.old) (O.faults out.new)) result }
+{
+    match stop {
+        Stop::Unfetched { name, fault } => say_made(out, store_line(alloc, name.as_str(), *fault)),
+        Stop::Faulty { n } => say_made(out, fault_line(alloc, *n)),
+        Stop::NotPlain => say(out, clip_fault_line()),
+        Stop::NoMemory => say(out, memory_line()),
+    }
+}
+
+/// The status of a session that stopped before its start.
+fn stop_status(stop: &Stop) -> u8
+    ensures { result ≡ stop_status stop.now }
+{
+    match stop {
+        Stop::Unfetched { name: _, fault: _ } => 4,
+        Stop::Faulty { n: _ } => 3,
+        Stop::NotPlain => 3,
+        Stop::NoMemory => 5,
+    }
+}
+
+/// The status after the last line, which was put so.
+fn status_after(said: Result<(), PutFault>, status: u8) -> u8
+    ensures { result ≡ status_after said status }
+{
+    match said {
+        Ok(()) => status,
+        Err(PutFault::Failed) => status,
+        Err(PutFault::NoMemory) => 5,
+    }
+}
+
+/// Says how the program is used.
+fn misuse<O: Sink>(out: &mut O) -> u8
+    ensures { StopsWith O.tells (Rose (O.faults out.old) (O.faults out.new)) (O.contents out.old) (O.contents out.new) usage_line 2 result }
+{
+    let said = say(out, usage_line());
+    status_after(said, 2)
+}
+
+/// Ends a session before its start.
+fn end_early<O: Sink>(alloc: Global, out: &mut O, stop: &Stop) -> u8
+    ensures { StopsWith O.tells (Rose (O.faults out.old) (O.faults out.new)) (O.contents out.old) (O.contents out.new) (stop_line stop.now) (stop_status stop.now) result }
+{
+    let said = say_stop(alloc, out, stop);
+    status_after(said, stop_status(stop))
+}
+
+/// Fetches the script of this name and plays it.
+fn run_script<T: Store, V: Vault, O: Sink>(
+    alloc: Global,
+    name: &str,
+    store: &mut T,
+    vault: &mut V,
+    out: &mut O,
+) -> u8
+    requires idle { V.begun vault.old ≡ None }
+    ensures runs { Runs (Some name.now) T.tells (Rose (T.faults store.old) (T.faults store.new)) (T.file store.old) V.tells (Rose (V.faults vault.old) (V.faults vault.new)) (V.file vault.old) (V.file vault.new) O.tells (Rose (O.faults out.old) (O.faults out.new)) (O.contents out.old) (O.contents out.new) result }
+    ensures idle { V.begun vault.new ≡ None }
+    ensures store { (other : List ℕ) → T.file store.new other ≡ T.file store.old other }
+{
+    match fetch_job(alloc, store, name) {
+        Ok(job) => play(alloc, &job, vault, out),
+        Err(stop) => end_early(alloc, out, &stop),
+    }
+}
+
+/// Reads the words of the command line and does what they say.
+fn run<T: Store, V: Vault, O: Sink>(
+    alloc: Global,
+    words: &[String],
+    store: &mut T,
+    vault: &mut V,
+    out: &mut O,
+) -> u8
+    requires idle { V.begun vault.old ≡ None }
+    ensures runs { Runs (script_name (map string_bytes words.now)) T.tells (Rose (T.faults store.old) (T.faults store.new)) (T.file store.old) V.tells (Rose (V.faults vault.old) (V.faults vault.new)) (V.file vault.old) (V.file vault.new) O.tells (Rose (O.faults out.old) (O.faults out.new)) (O.contents out.old) (O.contents out.new) result }
+    ensures idle { V.begun vault.new ≡ None }
+    ensures store { (other : List ℕ) → T.file store.new other ≡ T.file store.old other }
+{
+    match script_name(words) {
+        None => misuse(out),
+        Some(name) => run_script(alloc, name, store, vault, out),
+    }
+}
+
+/// How a run ended.
+#[derive(Clone, Copy, Debug, PartialEq, Eq)]
+pub struct Outcome {
+    /// The exit status: 0, or 2 for wrong words, 3 for a faulty script or clip, 4 where the outside
+    /// failed, 5 for want of memory.
+    pub status: u8,
+}
+
+/// Does what the words of a command line ask for, alone on one thread, and always returns.
+///
+/// The words are one, the name of a script, which doesn't begin with `-`. The script and its clip are
+/// fetched from `store`; each line goes to `out` in one `put`, and after one that isn't `Ok` no other
+/// is made; the export goes to `vault`, also where the line of its ask wasn't put. No frame is shown
+/// yet, so `screen` stays as it is.
+pub fn run_alone<T: Store, V: Vault, S: Sink, O: Sink>(
+    alloc: Global,
+    words: &[String],
+    store: &mut T,
+    vault: &mut V,
+    screen: &mut S,
+    out: &mut O,
+) -> Outcome
+    requires idle { V.begun vault.old ≡ None }
+
+    // 0: the script was played to its end.
+    ensures played { result.status ≡ 0 → (script : Form) × (bytes : List ℕ) × (clip : ClipIndex) × Works (script_name (map string_bytes words.now)) T.tells (T.file store.old) script bytes clip
+        × Played V.tells (V.file vault.old) (V.file vault.new) O.tells (O.contents out.old) (O.contents out.new) script bytes clip }
+
+    // 2: exactly where the words aren't of the form, unless memory ran out.
+    ensures misused { result.status ≡ 2 → (script_name (map string_bytes words.now) ≡ None) × Puts O.tells (Rose (O.faults out.old) (O.faults out.new)) (O.contents out.old) (O.contents out.new) usage_line }
+    ensures usage { script_name (map string_bytes words.now) ≡ None → (result.status ≡ 2) ⊎ (result.status ≡ 5) }
+
+    // 3: the script was fetched and isn't of the form, or it is and the clip was fetched and isn't plain.
+    ensures faulty { result.status ≡ 3 → Stopped 3 (script_name (map string_bytes words.now)) T.tells (Rose (T.faults store.old) (T.faults store.new)) (T.file store.old)
+        O.tells (Rose (O.faults out.old) (O.faults out.new)) (O.contents out.old) (O.contents out.new) }
+
+    // 4: a count rose, or the told store lacks a file or holds more of it than its limit.
+    ensures outside { result.status ≡ 4 → Rose (O.faults out.old) (O.faults out.new)
+        ⊎ (Stopped 4 (script_name (map string_bytes words.now)) T.tells (Rose (T.faults store.old) (T.faults store.new)) (T.file store.old) O.tells (Rose (O.faults out.old) (O.faults out.new)) (O.contents out.old) (O.contents out.new)
+        ⊎ Unsunk (script_name (map string_bytes words.now)) T.tells (T.file store.old) (Rose (V.faults vault.old) (V.faults vault.new)) O.tells (O.contents out.old) (O.contents out.new)) }
+
+    // 5: want of memory. There is no other status.
+    ensures no_other { (result.status ≡ 0) ⊎ ((result.status ≡ 2) ⊎ ((result.status ≡ 3) ⊎ ((result.status ≡ 4) ⊎ (result.status ≡ 5)))) }
+
+    // Whatever the status: what else changed.
+    ensures files { ChangesOnlyExport (script_name (map string_bytes words.now)) T.tells (T.file store.old) V.tells (V.file vault.old) (V.file vault.new) }
+    ensures idle { V.begun vault.new ≡ None }
+    ensures store { (other : List ℕ) → T.file store.new other ≡ T.file store.old other }
+    ensures screen { screen.new ≡ screen.old }
+{
+    let _ = screen;
+    Outcome {
+        status: run(alloc, words, store, vault, out),
+    }
+}
