@@ -1,8 +1,8 @@
 -- An element that is read at the front of a text is spelled there, and one that is spelled there is read.
-use Rattle.std.proofs.Common.{◌≡◌, ℕ, suc, ◌+◌, ◌-◌, ◌<◌, ◌≤◌, Bool, cond, ltb, true, false, List, [], ◌∷◌, ◌++◌, length, take, drop, Option, Some, None, Result, Ok, Err, refl, sym, ap, subst, ◌∙◌, append_assoc, arith}
+use Rattle.std.proofs.Common.{◌≡◌, ℕ, suc, ◌+◌, ◌-◌, ◌<◌, ◌≤◌, Bool, cond, ltb, true, false, List, [], ◌∷◌, ◌++◌, length, take, drop, Some, None, Result, Ok, Err, refl, sym, ap, subst, ◌∙◌, append_assoc, arith}
 use Rattle.std.proofs.lemmas.Bool.{true≢false, le-ltb, ltb-false}
 use Rattle.std.proofs.lemmas.Bool.Decides.{nat_tests}
-use Rattle.std.proofs.lemmas.List.{length-append, length-take-le, length-drop, take_at, drop_at, take-append-drop, drop-drop}
+use Rattle.std.proofs.lemmas.List.{length-append, length-take-le, length-drop, drop_at, take-append-drop, drop-drop}
 use Rattle.ebml_core.specs.declared.vint.Size.{Size}
 use Rattle.ebml_core.specs.declared.vint.Size.TheVariants.{Known, Unknown}
 use Rattle.ebml_core.specs.declared.vint.VintFault.{VintFault}
@@ -10,7 +10,7 @@ use Rattle.ebml_core.specs.declared.vint.VintFault.TheVariants.{Short, BadVint}
 use Rattle.ebml_core.specs.declared.element.Element.{Element}
 use Rattle.ebml_core.specs.declared.element.Header.{Header}
 use Rattle.ebml_core.specs.declared.element.EbmlFault.{EbmlFault}
-use Rattle.ebml_core.specs.Spelling.{unsigned_of, size_of, IsVint, Piece, IsPiece, spelling, element_of}
+use Rattle.ebml_core.specs.Spelling.{unsigned_of, size_of, Piece, IsPiece, spelling, element_of}
 use Rattle.ebml_core.specs.Reading.{◌>>=◌, octet_count, vint_at, id_at, size_at, header_at, sized, laid, found, element_at}
 use Rattle.ebml_core.proofs.Numbers.{AreBytes, AreBytes-drop}
 use Rattle.ebml_core.proofs.Vints.{ok_is, passed, vint_takes, vint_again}
