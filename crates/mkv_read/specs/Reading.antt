@@ -38,10 +38,7 @@ pub record LiesWithin (end : ℕ) (e : Element) : Type 0 where
   pub content : e.content ≤ e.end
   pub within : e.end ≤ end
 
--- what is there, and what must not be
-abbrev pub wanted : {X : Type 0} → Option X → Option X
-wanted o = o
-
+-- that nothing is left
 abbrev pub ended : {X : Type 0} → Option X → Option Unit
 ended None = Some tt
 ended (Some x) = None
@@ -71,16 +68,14 @@ seek_in id refused (gives e rest) =
 abbrev pub children_of : List ℕ → Element → Walk
 children_of bytes master = walk master.content (between bytes master.content master.end)
 
-unfoldable pub only_in : ℕ → Walk → Option Element
-only_in id children = do
-  first ← seek_in id [] children
-  child ← wanted first
+-- the one child of an id
+unfoldable pub only_at : List ℕ → Element → ℕ → Option Element
+only_at bytes master id = do
+  first ← seek_in id [] (children_of bytes master)
+  child ← first
   second ← seek_in id [] child.1
   last ← ended second
   Some child.0
-
-unfoldable pub only_at : List ℕ → Element → ℕ → Option Element
-only_at bytes master id = only_in id (children_of bytes master)
 
 unfoldable pub none_at : List ℕ → Element → ℕ → Option Unit
 none_at bytes master id = do
@@ -170,14 +165,14 @@ each_in id refused step (gives e rest) taken =
 unfoldable pub take_cluster : List ℕ → ℕ → Element → Taken → Option Taken
 take_cluster bytes number cluster taken = do
   first ← seek_in TIMESTAMP (SIMPLE_BLOCK ∷ BLOCK_GROUP ∷ []) (children_of bytes cluster)
-  timestamp ← wanted first
+  timestamp ← first
   time ← number_at bytes timestamp.0
   each_in SIMPLE_BLOCK (TIMESTAMP ∷ BLOCK_GROUP ∷ []) (take_block bytes number time) timestamp.1 taken
 
 unfoldable pub segment_at : List ℕ → Element → Option ClipIndex
 segment_at bytes segment = do
   first ← seek_in TRACKS (CLUSTER ∷ []) (children_of bytes segment)
-  tracks ← wanted first
+  tracks ← first
   track ← track_at bytes tracks.0
   taken ← each_in CLUSTER (TRACKS ∷ []) (take_cluster bytes track.number) tracks.1 (record { packets = []; last = 0 })
   if length taken.packets == 0 then None else
@@ -187,9 +182,9 @@ segment_at bytes segment = do
 unfoldable pub masters_at : List ℕ → Option (Element × Element)
 masters_at bytes = do
   first ← known_at (walk 0 (between bytes 0 (length bytes)))
-  header ← wanted first
+  header ← first
   second ← known_at header.1
-  segment ← wanted second
+  segment ← second
   third ← known_at segment.1
   last ← ended third
   if header.0.id == EBML && segment.0.id == SEGMENT then Some (header.0, segment.0) else None
