@@ -15,3 +15,6 @@ pub use clip::{ClipIndex, MAX_FRAMES, MAX_PRIVATE, MAX_SIDE, Place, Places};
 pub use fault::{ClipFault, Which};
 pub use file::read_clip;
 pub use laws::one_clip;
+
+#[cfg(test)]
+mod tests;
