@@ -33,15 +33,15 @@ guard_some false r y e = (refl, e)
 abbrev pub AreKnown : List Element → Type 0
 AreKnown es = AllByRecursion (λ e. e.unknown ≡ false) es
 
-AreKnown-append : (es ds : List Element) → AreKnown es → AreKnown ds → AreKnown (es ++ ds)
+pub AreKnown-append : (es ds : List Element) → AreKnown es → AreKnown ds → AreKnown (es ++ ds)
 AreKnown-append [] ds he hd = hd
 AreKnown-append (e ∷ es) ds he hd = (he.0, AreKnown-append es ds he.1 hd)
 
-AreKnown-front : (es ds : List Element) → AreKnown (es ++ ds) → AreKnown es
+pub AreKnown-front : (es ds : List Element) → AreKnown (es ++ ds) → AreKnown es
 AreKnown-front [] ds h = tt
 AreKnown-front (e ∷ es) ds h = (h.0, AreKnown-front es ds h.1)
 
-AreKnown-back : (es ds : List Element) → AreKnown (es ++ ds) → AreKnown ds
+pub AreKnown-back : (es ds : List Element) → AreKnown (es ++ ds) → AreKnown ds
 AreKnown-back [] ds h = h
 AreKnown-back (e ∷ es) ds h = AreKnown-back es ds h.1
 
@@ -64,7 +64,7 @@ walk-from_Holds bytes from to es h =
 
 -- ---- elements of an id
 
-named-append : (id : ℕ) (es ds : List Element) → named id (es ++ ds) ≡ named id es ++ named id ds
+pub named-append : (id : ℕ) (es ds : List Element) → named id (es ++ ds) ≡ named id es ++ named id ds
 named-append id [] ds = refl
 named-append id (e ∷ es) ds = by_test (eqb e.id id) (named-append id es ds)
   where
@@ -72,10 +72,10 @@ named-append id (e ∷ es) ds = by_test (eqb e.id id) (named-append id es ds)
     by_test true h = ap (λ (xs : List Element). e ∷ xs) h
     by_test false h = h
 
-Lacks-cons : (id : ℕ) (e : Element) (es : List Element) → eqb e.id id ≡ false → Lacks id es → Lacks id (e ∷ es)
+pub Lacks-cons : (id : ℕ) (e : Element) (es : List Element) → eqb e.id id ≡ false → Lacks id es → Lacks id (e ∷ es)
 Lacks-cons id e es other h = rw other h
 
-Lacks-parts : (id : ℕ) (e : Element) (es : List Element) → Lacks id (e ∷ es) → (eqb e.id id ≡ false) × Lacks id es
+pub Lacks-parts : (id : ℕ) (e : Element) (es : List Element) → Lacks id (e ∷ es) → (eqb e.id id ≡ false) × Lacks id es
 Lacks-parts id e es h = by_test (eqb e.id id) h
   where
     by_test : (here : Bool) → cond here (e ∷ named id es) (named id es) ≡ [] → (here ≡ false) × Lacks id es
@@ -85,20 +85,20 @@ Lacks-parts id e es h = by_test (eqb e.id id) h
 eqb-flip : (m n : ℕ) → eqb m n ≡ false → eqb n m ≡ false
 eqb-flip m n h = ne_eqb n m (λ e. eqb-false m n h (sym e))
 
-abbrev LackAll : List ℕ → List Element → Type 0
+abbrev pub LackAll : List ℕ → List Element → Type 0
 LackAll refused es = AllByRecursion (λ id. Lacks id es) refused
 
-LackAll-nil : (refused : List ℕ) → LackAll refused []
+pub LackAll-nil : (refused : List ℕ) → LackAll refused []
 LackAll-nil [] = tt
 LackAll-nil (id ∷ refused) = (refl, LackAll-nil refused)
 
-LackAll-cons : (refused : List ℕ) (e : Element) (es : List Element) → list_any (λ other. eqb other e.id) refused ≡ false → LackAll refused es → LackAll refused (e ∷ es)
+pub LackAll-cons : (refused : List ℕ) (e : Element) (es : List Element) → list_any (λ other. eqb other e.id) refused ≡ false → LackAll refused es → LackAll refused (e ∷ es)
 LackAll-cons [] e es free h = tt
 LackAll-cons (id ∷ refused) e es free h =
     let parts = or_parts (eqb id e.id) (list_any (λ other. eqb other e.id) refused) free in
     (Lacks-cons id e es (eqb-flip id e.id parts.0) h.0, LackAll-cons refused e es parts.1 h.1)
 
-LackAll-parts : (refused : List ℕ) (e : Element) (es : List Element) → LackAll refused (e ∷ es) → (list_any (λ other. eqb other e.id) refused ≡ false) × LackAll refused es
+pub LackAll-parts : (refused : List ℕ) (e : Element) (es : List Element) → LackAll refused (e ∷ es) → (list_any (λ other. eqb other e.id) refused ≡ false) × LackAll refused es
 LackAll-parts [] e es h = (refl, tt)
 LackAll-parts (id ∷ refused) e es h =
     let first = Lacks-parts id e es h.0 in
@@ -114,7 +114,7 @@ pub record Split (id : ℕ) (es : List Element) (child : Element) (more : List E
   pub rest : named id after ≡ more
   pub id_is : child.id ≡ id
 
-split_named : (id : ℕ) (es : List Element) (child : Element) (more : List Element) → named id es ≡ child ∷ more → Split id es child more
+pub split_named : (id : ℕ) (es : List Element) (child : Element) (more : List Element) → named id es ≡ child ∷ more → Split id es child more
 split_named id [] child more h = absurd cc
 split_named id (e ∷ es) child more h = by_test (eqb e.id id) refl h (λ later. split_named id es child more later)
   where
@@ -126,7 +126,7 @@ split_named id (e ∷ es) child more h = by_test (eqb e.id id) refl h (λ later.
         let s = later h in
         record { before = e ∷ s.before; after = s.after; is = ap (λ (xs : List Element). e ∷ xs) s.is; lacks = Lacks-cons id e s.before there s.lacks; rest = s.rest; id_is = s.id_is }
 
-named-split : (id : ℕ) (before : List Element) (child : Element) (after : List Element) → child.id ≡ id → Lacks id before → named id (before ++ child ∷ after) ≡ child ∷ named id after
+pub named-split : (id : ℕ) (before : List Element) (child : Element) (after : List Element) → child.id ≡ id → Lacks id before → named id (before ++ child ∷ after) ≡ child ∷ named id after
 named-split id before child after is lacks =
     named-append id before (child ∷ after) ∙ ap (λ (xs : List Element). xs ++ named id (child ∷ after)) lacks ∙ rw (eq-eqb child.id id is) refl
 
@@ -227,7 +227,7 @@ pub seek_in-here : (id : ℕ) (refused : List ℕ) (e : Element) (rest : Walk) �
 unfolding seek_in
 seek_in-here id refused e rest known is = rw (known, eq-eqb e.id id is) refl
 
-seek_in-end : (id : ℕ) (refused : List ℕ) → seek_in id refused ends ≡ Some None
+pub seek_in-end : (id : ℕ) (refused : List ℕ) → seek_in id refused ends ≡ Some None
 unfolding seek_in
 seek_in-end id refused = refl
 

@@ -72,8 +72,8 @@ pub record IsPrivate (bytes : List ℕ) (entry : Element) (place : Place) : Type
   pub some : 1 ≤ place.len
   pub most : place.len ≤ MAX_PRIVATE
 
--- the entry of a video track of FFV1, whose blocks are neither compressed nor encrypted (RFC 9559 section 5.1.4.1)
-pub record IsTrack (bytes : List ℕ) (entry : Element) (number width height : ℕ) (private : Place) : Type 0 where
+-- the entry of a video track of FFV1 with this number, whose blocks are neither compressed nor encrypted
+pub record IsFfv1 (bytes : List ℕ) (entry : Element) (number : ℕ) : Type 0 where
   pub number_element : Element
   pub one_number : HasOne bytes entry TRACK_NUMBER number_element
   pub number_is : IsNumber bytes number_element number
@@ -83,8 +83,14 @@ pub record IsTrack (bytes : List ℕ) (entry : Element) (number width height : �
   pub codec : Element
   pub one_codec : HasOne bytes entry CODEC_ID codec
   pub codec_is : text_of (content_of bytes codec) ≡ codes "V_FFV1"
-  pub record_is : IsPrivate bytes entry private
   pub plain : HasNone bytes entry CONTENT_ENCODINGS
+
+-- a Tracks with one TrackEntry (RFC 9559 section 5.1.4)
+pub record IsTrack (bytes : List ℕ) (tracks : Element) (number width height : ℕ) (private : Place) : Type 0 where
+  pub entry : Element
+  pub one_entry : HasOne bytes tracks TRACK_ENTRY entry
+  pub ffv1 : IsFfv1 bytes entry number
+  pub configured : IsPrivate bytes entry private
   pub video : Element
   pub one_video : HasOne bytes entry VIDEO video
   pub width_is : IsSide bytes video PIXEL_WIDTH width
@@ -146,7 +152,7 @@ abbrev pub NeverFall : ℕ → List Block → Type 0
 NeverFall time [] = Unit {0}
 NeverFall time (block ∷ blocks) = (time ≤ block.time) × NeverFall block.time blocks
 
--- a Segment with one Tracks, before all Clusters, and that with one TrackEntry (RFC 9559 section 5.1)
+-- a Segment with one Tracks, before all its Clusters (RFC 9559 section 5.1)
 pub record IsSegment (bytes : List ℕ) (segment : Element) (clip : ClipIndex) : Type 0 where
   pub before : List Element
   pub tracks : Element
@@ -156,10 +162,8 @@ pub record IsSegment (bytes : List ℕ) (segment : Element) (clip : ClipIndex) :
   pub none_before : Lacks TRACKS before
   pub none_after : Lacks TRACKS after
   pub no_early_cluster : Lacks CLUSTER before
-  pub entry : Element
-  pub one_entry : HasOne bytes tracks TRACK_ENTRY entry
   pub number : ℕ
-  pub track : IsTrack bytes entry number clip.width clip.height clip.private
+  pub track : IsTrack bytes tracks number clip.width clip.height clip.private
   pub blocks : List Block
   pub clusters : AreClusters bytes number (named CLUSTER after) blocks
   pub in_order : NeverFall 0 blocks
