@@ -84,7 +84,7 @@ after_blocks-append : (taken : Taken) (bs cs : List Block) → after_blocks take
 after_blocks-append taken [] cs = refl
 after_blocks-append taken (b ∷ bs) cs = after_blocks-append (after_block taken b) bs cs
 
-length-after_blocks : (taken : Taken) (bs : List Block) → length (after_blocks taken bs).packets ≡ length taken.packets + length bs
+pub length-after_blocks : (taken : Taken) (bs : List Block) → length (after_blocks taken bs).packets ≡ length taken.packets + length bs
 length-after_blocks taken [] = omega arith
 length-after_blocks taken (b ∷ bs) = length-after_blocks (after_block taken b) bs ∙ omega (arith, length-append taken.packets (b.packet ∷ []))
 
