@@ -1,7 +1,7 @@
 -- A block that is taken is one that the Cluster holds, and the other way round.
-use Rattle.std.proofs.Common.{◌≡◌, ℕ, ◌+◌, ◌-◌, ◌<◌, ◌≤◌, Bool, true, false, cond, eqb, ltb, leb, ◌||◌, List, [], ◌∷◌, ◌++◌, length, take, drop, map, Option, Some, None, Result, Ok, Err, refl, sym, ap, subst, ◌∙◌, append_assoc, bit_and, arith}
+use Rattle.std.proofs.Common.{◌≡◌, ℕ, ◌+◌, ◌<◌, ◌≤◌, Bool, true, false, cond, eqb, ltb, leb, ◌||◌, List, [], ◌∷◌, ◌++◌, length, take, drop, Option, Some, None, Result, Ok, Err, refl, sym, ap, ◌∙◌, bit_and, arith}
 use Rattle.std.proofs.lemmas.Bool.{eqb-true, eq-eqb, le-ltb, lt-leb, ltb-false, leb-false, or_parts, or_from}
-use Rattle.std.proofs.lemmas.List.{append-nil, length-append, length-take-le, take-append-drop, drop_at}
+use Rattle.std.proofs.lemmas.List.{length-append, length-take-le, take-append-drop, drop_at}
 use Rattle.ebml_core.specs.declared.element.Element.{Element}
 use Rattle.ebml_core.specs.declared.vint.Size.{Size}
 use Rattle.ebml_core.specs.declared.vint.Size.TheVariants.{Known, Unknown}
@@ -9,7 +9,6 @@ use Rattle.ebml_core.specs.declared.vint.VintFault.{VintFault}
 use Rattle.ebml_core.specs.Reading.{size_at}
 use Rattle.ebml_core.proofs.Numbers.{AreBytes, AreBytes-take, AreBytes-drop}
 use Rattle.ebml_core.proofs.Headers.{size_at-takes, size_at-again}
-use Rattle.mkv_read.specs.declared.clip.Place.{Place}
 use Rattle.mkv_read.specs.declared.clip.TheConstants.{MAX_FRAMES}
 use Rattle.mkv_read.specs.Plain.{content_of, Block, signed_plus_32768, IsBlock, AreBlocks, NeverFall}
 use Rattle.mkv_read.specs.Reading.{◌>>=◌, framed, of_track, block_at, Taken, take_block}

@@ -1,16 +1,16 @@
 -- Packets that are taken of Clusters are those that they hold, and the other way round.
-use Rattle.std.proofs.Common.{◌≡◌, ℕ, ◌+◌, ◌-◌, ◌<◌, ◌≤◌, Bool, true, false, cond, eqb, List, [], ◌∷◌, ◌++◌, length, map, Option, Some, None, refl, sym, ap, subst, ◌∙◌, append_assoc, arith}
-use Rattle.std.specs.List.{list_any, AllByRecursion}
-use Rattle.std.proofs.lemmas.Bool.{ne_eqb, eqb-false, eqb-true, eq-eqb}
+use Rattle.std.proofs.Common.{◌≡◌, ℕ, ◌+◌, ◌≤◌, Bool, true, false, cond, eqb, List, [], ◌∷◌, ◌++◌, length, map, Option, Some, None, refl, sym, ap, subst, ◌∙◌, append_assoc, arith}
+use Rattle.std.specs.List.{list_any}
+use Rattle.std.proofs.lemmas.Bool.{eqb-true}
 use Rattle.std.proofs.lemmas.List.{append-nil, length-append}
 use Rattle.ebml_core.specs.declared.element.Element.{Element}
 use Rattle.ebml_core.specs.Walking.{Walk, ends, breaks, gives, whole}
 use Rattle.ebml_core.proofs.Numbers.{AreBytes}
-use Rattle.mkv_elements.specs.declared.TheConstants.{CLUSTER, TIMESTAMP, SIMPLE_BLOCK, BLOCK_GROUP}
+use Rattle.mkv_elements.specs.declared.TheConstants.{TIMESTAMP, SIMPLE_BLOCK, BLOCK_GROUP}
 use Rattle.mkv_read.specs.declared.clip.TheConstants.{MAX_FRAMES}
-use Rattle.mkv_read.specs.Plain.{Children, named, Lacks, Block, IsNumber, IsCluster, AreClusters, AreBlocks, NeverFall}
-use Rattle.mkv_read.specs.Reading.{◌>>=◌, Taken, children_of, number_at, seek_in, each_in, take_block, take_cluster}
-use Rattle.mkv_read.proofs.Elements.{bind_some, some, some_is, AreKnown, AreKnown-back, LackAll, LackAll-nil, LackAll-cons, LackAll-parts, Holds-known, Holds-from_walk, Found, Found-whole, found, seek_in-found, seek_in-split}
+use Rattle.mkv_read.specs.Plain.{named, Block, IsCluster, AreClusters, NeverFall}
+use Rattle.mkv_read.specs.Reading.{◌>>=◌, Taken, children_of, number_at, each_in, take_block, take_cluster}
+use Rattle.mkv_read.proofs.Elements.{bind_some, some, some_is, AreKnown, AreKnown-back, LackAll, LackAll-nil, LackAll-cons, LackAll-parts, Holds-known, Holds-from_walk, Found-whole, seek_in-found, seek_in-split}
 use Rattle.mkv_read.proofs.Tracks.{number_at-IsNumber, IsNumber-number_at}
 use Rattle.mkv_read.proofs.Blocks.{TakesBlocks, take_all, after_block, after_blocks, take_all-blocks, blocks-take_all}
 

@@ -1,8 +1,7 @@
 -- What a seek finds among the elements of a master, and what it finds nothing of.
-use Rattle.std.proofs.Common.{◌≡◌, ℕ, ◌+◌, length, ◌⊎◌, Bool, true, false, cond, eqb, ◌||◌, List, [], ◌∷◌, ◌++◌, Option, Some, None, refl, sym, ap, subst, ◌∙◌, inl, inr, append_assoc}
-use Rattle.std.specs.Prelude.{filter}
+use Rattle.std.proofs.Common.{◌≡◌, ℕ, ◌+◌, length, ◌⊎◌, Bool, true, false, cond, eqb, List, [], ◌∷◌, ◌++◌, Option, Some, None, refl, sym, ap, subst, ◌∙◌, inl, inr}
 use Rattle.std.specs.List.{list_any, AllByRecursion}
-use Rattle.std.proofs.lemmas.Bool.{ne_eqb, eqb-false, eqb-true, eq-eqb, or_parts, true≢false}
+use Rattle.std.proofs.lemmas.Bool.{ne_eqb, eqb-false, eqb-true, eq-eqb, or_parts}
 use Rattle.std.proofs.lemmas.List.{append-nil}
 use Rattle.ebml_core.specs.declared.element.Element.{Element}
 use Rattle.ebml_core.specs.Spelling.{Piece, Holds, between, spelling, elements_from}
@@ -164,9 +163,9 @@ seek_in-ended id refused (gives e rest) h =
     elim c.1 [
       | inl here ↦ absurd (none_some (e, rest) here.1)
       | inr there ↦
-        let later = seek_in-ended id refused rest there.2 in
-        record { es = e ∷ later.es; is = ap (gives e) later.is; known = (c.0, later.known); lacks = Lacks-cons id e later.es there.0 later.lacks; free = LackAll-cons refused e later.es there.1 later.free }
-      ]
+          let later = seek_in-ended id refused rest there.2 in
+          record { es = e ∷ later.es; is = ap (gives e) later.is; known = (c.0, later.known); lacks = Lacks-cons id e later.es there.0 later.lacks; free = LackAll-cons refused e later.es there.1 later.free }
+    ]
   where
     none_some : (x : Element × Walk) → some x ≡ None → ⊥
     none_some x h = cc
@@ -191,29 +190,29 @@ seek_in-found id refused (gives d w) e rest h =
     let c = seek_cases d.unknown (eqb d.id id) (list_any (λ other. eqb other d.id) refused) (d, w) (seek_in id refused w) (Some (e, rest)) h in
     elim c.1 [
       | inl here ↦
-        let pairs : (d, w) ≡ (e, rest) = some_is (d, w) (e, rest) here.1 in
-        let same : d ≡ e = ap (λ (x : Element × Walk). x.0) pairs in
-        record {
-          before = [];
-          is = ap (λ (x : Element × Walk). gives x.0 x.1) pairs;
-          known_before = tt;
-          known = ap (λ (x : Element). x.unknown) (sym same) ∙ c.0;
-          id_is = ap (λ (x : Element). x.id) (sym same) ∙ eqb-true d.id id here.0;
-          lacks = refl;
-          free = LackAll-nil refused;
-        }
+          let pairs : (d, w) ≡ (e, rest) = some_is (d, w) (e, rest) here.1 in
+          let same : d ≡ e = ap (λ (x : Element × Walk). x.0) pairs in
+          record {
+            before = [];
+            is = ap (λ (x : Element × Walk). gives x.0 x.1) pairs;
+            known_before = tt;
+            known = ap (λ (x : Element). x.unknown) (sym same) ∙ c.0;
+            id_is = ap (λ (x : Element). x.id) (sym same) ∙ eqb-true d.id id here.0;
+            lacks = refl;
+            free = LackAll-nil refused;
+          }
       | inr there ↦
-        let later = seek_in-found id refused w e rest there.2 in
-        record {
-          before = d ∷ later.before;
-          is = ap (gives d) later.is;
-          known_before = (c.0, later.known_before);
-          known = later.known;
-          id_is = later.id_is;
-          lacks = Lacks-cons id d later.before there.0 later.lacks;
-          free = LackAll-cons refused d later.before there.1 later.free;
-        }
-      ]
+          let later = seek_in-found id refused w e rest there.2 in
+          record {
+            before = d ∷ later.before;
+            is = ap (gives d) later.is;
+            known_before = (c.0, later.known_before);
+            known = later.known;
+            id_is = later.id_is;
+            lacks = Lacks-cons id d later.before there.0 later.lacks;
+            free = LackAll-cons refused d later.before there.1 later.free;
+          }
+    ]
 
 pub seek_in-past : (id : ℕ) (refused : List ℕ) (before : List Element) (w : Walk) → AreKnown before → Lacks id before → LackAll refused before → seek_in id refused (onto before w) ≡ seek_in id refused w
 unfolding seek_in

@@ -1,5 +1,5 @@
 -- The clip that is read is the one that a plain file holds, and a plain file's clip is read.
-use Rattle.std.proofs.Common.{◌≡◌, ℕ, ◌+◌, ◌-◌, ◌<◌, ◌≤◌, Bool, true, false, cond, eqb, ◌&&◌, List, [], ◌∷◌, ◌++◌, length, map, Option, Some, None, Result, Ok, Err, refl, sym, ap, subst, ◌∙◌, arith}
+use Rattle.std.proofs.Common.{◌≡◌, ℕ, ◌≤◌, Bool, true, false, cond, eqb, ◌&&◌, List, [], ◌∷◌, ◌++◌, length, map, Option, Some, None, Result, Ok, Err, refl, sym, ap, subst, ◌∙◌, arith}
 use Rattle.std.specs.Prelude.{IfOk}
 use Rattle.std.proofs.lemmas.Bool.{ne_eqb, eqb-false, eqb-true, eq-eqb, and_parts}
 use Rattle.std.proofs.lemmas.List.{length-map}
@@ -10,16 +10,14 @@ use Rattle.ebml_core.proofs.Numbers.{AreBytes}
 use Rattle.mkv_elements.specs.declared.TheConstants.{EBML, SEGMENT, TRACKS, CLUSTER}
 use Rattle.mkv_read.specs.declared.clip.Place.{Place}
 use Rattle.mkv_read.specs.declared.clip.ClipIndex.{ClipIndex}
-use Rattle.mkv_read.specs.declared.clip.TheConstants.{MAX_FRAMES}
-use Rattle.mkv_read.specs.declared.track.Track.{Track}
 use Rattle.mkv_read.specs.declared.fault.ClipFault.{ClipFault}
 use Rattle.mkv_read.specs.declared.fault.ClipFault.TheVariants as faults
-use Rattle.mkv_read.specs.Plain.{Children, named, Block, IsTrack, IsSegment, IsPlainFile}
-use Rattle.mkv_read.specs.Reading.{◌>>=◌, Gives, ended, known_at, children_of, seek_in, each_in, Taken, take_cluster, track_at, segment_at, masters_at, matroska_at, plain_clip}
-use Rattle.mkv_read.proofs.Elements.{bind_some, some, some_is, guard_some, none_after, AreKnown, AreKnown-back, Holds-known, Holds-from_walk, walk-from_Holds, Found-whole, found, seek_in-found, seek_in-split}
-use Rattle.mkv_read.proofs.Tracks.{track, track_at-IsTrack, IsTrack-track_at, matroska_at-IsMatroska, IsMatroska-matroska_at}
-use Rattle.mkv_read.proofs.Blocks.{take_all, after_blocks}
-use Rattle.mkv_read.proofs.Clusters.{each_in-taken, taken-each_in, take_all-clusters, clusters-take_all, packets-after_blocks, length-after_blocks}
+use Rattle.mkv_read.specs.Plain.{named, IsSegment, IsPlainFile}
+use Rattle.mkv_read.specs.Reading.{Gives, ended, known_at, children_of, each_in, Taken, take_cluster, track_at, segment_at, masters_at, matroska_at, plain_clip}
+use Rattle.mkv_read.proofs.Elements.{bind_some, some, some_is, guard_some, none_after, AreKnown-back, Holds-known, Holds-from_walk, walk-from_Holds, Found-whole, found, seek_in-found, seek_in-split}
+use Rattle.mkv_read.proofs.Tracks.{track_at-IsTrack, IsTrack-track_at, matroska_at-IsMatroska, IsMatroska-matroska_at}
+use Rattle.mkv_read.proofs.Blocks.{after_blocks}
+use Rattle.mkv_read.proofs.Clusters.{each_in-taken, taken-each_in, take_all-clusters, clusters-take_all, packets-after_blocks}
 
 -- ---- a Segment
 

@@ -1,8 +1,8 @@
 -- What is read of a Tracks is what it has, and the other way round.
-use Rattle.std.proofs.Common.{◌≡◌, ℕ, ◌+◌, ◌-◌, ◌≤◌, Bool, true, false, cond, eqb, ltb, ◌||◌, List, [], ◌∷◌, length, Option, Some, None, refl, sym, ap, subst, ◌∙◌, arith}
+use Rattle.std.proofs.Common.{◌≡◌, ℕ, ◌-◌, Bool, true, false, eqb, ltb, ◌||◌, List, length, Some, refl, sym, ap, subst, arith}
 use Rattle.std.specs.Prelude.{codes}
 use Rattle.std.specs.Str.{bytes_eq}
-use Rattle.std.proofs.lemmas.Bool.{ne_eqb, eqb-false, eqb-true, eq-eqb, le-ltb, ltb-false, or_parts, or_from}
+use Rattle.std.proofs.lemmas.Bool.{ne_eqb, eqb-false, eqb-true, le-ltb, ltb-false, or_parts, or_from}
 use Rattle.std.proofs.lemmas.Slice.Eq.{bytes_eq-Decides}
 use Rattle.ebml_core.specs.declared.element.Element.{Element}
 use Rattle.ebml_core.specs.Spelling.{unsigned_of}
@@ -12,8 +12,8 @@ use Rattle.mkv_read.specs.declared.clip.Place.{Place}
 use Rattle.mkv_read.specs.declared.clip.TheConstants.{MAX_SIDE, MAX_PRIVATE}
 use Rattle.mkv_read.specs.declared.track.TheConstants.{VIDEO_TYPE}
 use Rattle.mkv_read.specs.declared.track.Track.{Track}
-use Rattle.mkv_read.specs.Plain.{content_of, text_of, HasOne, IsNumber, IsMatroska, IsSide, IsPrivate, IsFfv1, IsTrack}
-use Rattle.mkv_read.specs.Reading.{◌>>=◌, require, only_at, none_at, number_at, side_at, private_at, ffv1_number_at, track_at, matroska_at}
+use Rattle.mkv_read.specs.Plain.{content_of, text_of, IsNumber, IsMatroska, IsSide, IsPrivate, IsFfv1, IsTrack}
+use Rattle.mkv_read.specs.Reading.{require, number_at, side_at, private_at, ffv1_number_at, track_at, matroska_at}
 use Rattle.mkv_read.proofs.Elements.{bind_some, some, some_is, guard_some, only_at-HasOne, HasOne-only_at, none_at-HasNone, HasNone-none_at}
 
 pub number_at-IsNumber : (bytes : List ℕ) (e : Element) (n : ℕ) → number_at bytes e ≡ Some n → IsNumber bytes e n

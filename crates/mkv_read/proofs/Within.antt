@@ -1,15 +1,15 @@
 -- The places of a plain file's clip lie within the file.
-use Rattle.std.proofs.Common.{◌≡◌, ℕ, ◌+◌, ◌-◌, ◌≤◌, Bool, true, false, cond, eqb, List, [], ◌∷◌, ◌++◌, length, take, drop, map, Result, Ok, Err, refl, sym, ap, subst, ◌∙◌, arith}
+use Rattle.std.proofs.Common.{◌≡◌, ℕ, ◌+◌, ◌-◌, ◌≤◌, Bool, true, false, cond, eqb, List, [], ◌∷◌, ◌++◌, length, drop, map, Result, Ok, Err, sym, ap, subst, ◌∙◌, arith}
 use Rattle.std.specs.Prelude.{IfOk}
 use Rattle.std.specs.List.{flat_map, AllByRecursion}
 use Rattle.std.proofs.lemmas.List.{length-append, length-take, length-drop, map-append}
 use Rattle.ebml_core.specs.declared.element.Element.{Element}
-use Rattle.ebml_core.specs.Spelling.{Piece, Holds, between, spelling, elements_from}
+use Rattle.ebml_core.specs.Spelling.{Piece, Holds, spelling, elements_from}
 use Rattle.mkv_read.specs.declared.clip.Place.{Place}
 use Rattle.mkv_read.specs.declared.clip.ClipIndex.{ClipIndex}
 use Rattle.mkv_read.specs.declared.fault.ClipFault.{ClipFault}
 use Rattle.mkv_elements.specs.declared.TheConstants.{TRACK_ENTRY, CODEC_PRIVATE, CLUSTER, SIMPLE_BLOCK}
-use Rattle.mkv_read.specs.Plain.{content_of, named, Children, HasOne, Block, IsBlock, AreBlocks, IsCluster, AreClusters, IsSegment, IsPlainFile, LiesBefore}
+use Rattle.mkv_read.specs.Plain.{named, Children, HasOne, Block, IsBlock, AreBlocks, IsCluster, AreClusters, IsPlainFile, LiesBefore}
 use Rattle.mkv_read.specs.Reading.{LiesWithin}
 
 abbrev AllLie : ℕ → List Element → Type 0

@@ -1,5 +1,4 @@
 -- What reading gives, as contracts see it in the code's values.
-use Rattle.std.specs.Prelude.{ℕ}
 use Rattle.mkv_read.specs.declared.block.Block.{Block}
 use Rattle.mkv_read.specs.declared.block.Packets.{Packets}
 use Rattle.mkv_read.specs.Plain as plain
