@@ -10,6 +10,7 @@ use Rattle.ebml_core.proofs.Numbers.{AreBytes, AreBytes-take, AreBytes-drop}
 use Rattle.ebml_core.proofs.Walks.{walk-lies, walk-again}
 use Rattle.mkv_read.specs.Plain.{Children, named, Lacks, HasOne, HasNone}
 use Rattle.mkv_read.specs.Reading.{◌>>=◌, ended, seek_in, children_of, only_at, none_at}
+use Rattle.mkv_read.proofs.Steps.{found}
 
 -- ---- steps that gave something
 
@@ -179,9 +180,6 @@ pub record Found (id : ℕ) (refused : List ℕ) (w : Walk) (e : Element) (rest 
   pub lacks : Lacks id before
   pub free : LackAll refused before
 
-abbrev pub found : Element → Walk → Option (Option (Element × Walk))
-found e rest = Some (Some (e, rest))
-
 pub seek_in-found : (id : ℕ) (refused : List ℕ) (w : Walk) (e : Element) (rest : Walk) → seek_in id refused w ≡ found e rest → Found id refused w e rest
 unfolding seek_in
 seek_in-found id refused ends e rest h = absurd cc
@@ -214,13 +212,13 @@ seek_in-found id refused (gives d w) e rest h =
           }
     ]
 
-pub seek_in-past : (id : ℕ) (refused : List ℕ) (before : List Element) (w : Walk) → AreKnown before → Lacks id before → LackAll refused before → seek_in id refused (onto before w) ≡ seek_in id refused w
+pub seek_in-onto : (id : ℕ) (refused : List ℕ) (before : List Element) (w : Walk) → AreKnown before → Lacks id before → LackAll refused before → seek_in id refused (onto before w) ≡ seek_in id refused w
 unfolding seek_in
-seek_in-past id refused [] w known lacks free = refl
-seek_in-past id refused (e ∷ before) w known lacks free =
+seek_in-onto id refused [] w known lacks free = refl
+seek_in-onto id refused (e ∷ before) w known lacks free =
     let l = Lacks-parts id e before lacks in
     let f = LackAll-parts refused e before free in
-    rw (known.0, l.0, f.0) (seek_in-past id refused before w known.1 l.1 f.1)
+    rw (known.0, l.0, f.0) (seek_in-onto id refused before w known.1 l.1 f.1)
 
 pub seek_in-here : (id : ℕ) (refused : List ℕ) (e : Element) (rest : Walk) → e.unknown ≡ false → e.id ≡ id → seek_in id refused (gives e rest) ≡ found e rest
 unfolding seek_in
@@ -232,7 +230,7 @@ seek_in-end id refused = refl
 
 pub seek_in-none : (id : ℕ) (refused : List ℕ) (es : List Element) → AreKnown es → Lacks id es → LackAll refused es → seek_in id refused (whole es) ≡ Some None
 seek_in-none id refused es known lacks free =
-    ap (seek_in id refused) (ap whole (sym (append-nil es)) ∙ sym (onto-whole es [])) ∙ seek_in-past id refused es ends known lacks free ∙ seek_in-end id refused
+    ap (seek_in id refused) (ap whole (sym (append-nil es)) ∙ sym (onto-whole es [])) ∙ seek_in-onto id refused es ends known lacks free ∙ seek_in-end id refused
 
 -- What was found with nothing but elements of known size behind it is one of such elements.
 pub Found-whole : (id : ℕ) (refused : List ℕ) (w : Walk) (e : Element) (rest : Walk) (after : List Element) (f : Found id refused w e rest) → rest ≡ whole after → AreKnown after → (w ≡ whole (f.before ++ e ∷ after)) × AreKnown (f.before ++ e ∷ after)
@@ -267,7 +265,7 @@ only_at-HasOne bytes master id child fits h =
 pub seek_in-split : (id : ℕ) (refused : List ℕ) (bytes : List ℕ) (master : Element) (before : List Element) (e : Element) (after : List Element) → Children bytes master (before ++ e ∷ after) → e.id ≡ id → Lacks id before → LackAll refused before → seek_in id refused (children_of bytes master) ≡ found e (whole after)
 seek_in-split id refused bytes master before e after held is lacks free =
     let known = Holds-known bytes master.content master.end (before ++ e ∷ after) held in
-    ap (seek_in id refused) (walk-from_Holds bytes master.content master.end (before ++ e ∷ after) held ∙ sym (onto-whole before (e ∷ after))) ∙ seek_in-past id refused before (gives e (whole after)) (AreKnown-front before (e ∷ after) known) lacks free ∙ seek_in-here id refused e (whole after) (AreKnown-back before (e ∷ after) known).0 is
+    ap (seek_in id refused) (walk-from_Holds bytes master.content master.end (before ++ e ∷ after) held ∙ sym (onto-whole before (e ∷ after))) ∙ seek_in-onto id refused before (gives e (whole after)) (AreKnown-front before (e ∷ after) known) lacks free ∙ seek_in-here id refused e (whole after) (AreKnown-back before (e ∷ after) known).0 is
 
 pub HasOne-only_at : (bytes : List ℕ) (master : Element) (id : ℕ) (child : Element) → HasOne bytes master id child → only_at bytes master id ≡ Some child
 unfolding only_at

@@ -14,7 +14,8 @@ use Rattle.mkv_read.specs.declared.fault.ClipFault.{ClipFault}
 use Rattle.mkv_read.specs.declared.fault.ClipFault.TheVariants as faults
 use Rattle.mkv_read.specs.Plain.{named, IsSegment, IsPlainFile}
 use Rattle.mkv_read.specs.Reading.{Gives, ended, known_at, children_of, each_in, Taken, take_cluster, track_at, segment_at, masters_at, matroska_at, plain_clip}
-use Rattle.mkv_read.proofs.Elements.{bind_some, some, some_is, guard_some, none_after, AreKnown-back, Holds-known, Holds-from_walk, walk-from_Holds, Found-whole, found, seek_in-found, seek_in-split}
+use Rattle.mkv_read.proofs.Elements.{bind_some, some, some_is, guard_some, none_after, AreKnown-back, Holds-known, Holds-from_walk, walk-from_Holds, Found-whole, seek_in-found, seek_in-split}
+use Rattle.mkv_read.proofs.Steps.{found, known_is}
 use Rattle.mkv_read.proofs.Tracks.{track_at-IsTrack, IsTrack-track_at, matroska_at-IsMatroska, IsMatroska-matroska_at}
 use Rattle.mkv_read.proofs.Blocks.{after_blocks}
 use Rattle.mkv_read.proofs.Clusters.{each_in-taken, taken-each_in, take_all-clusters, clusters-take_all, packets-after_blocks}
@@ -81,13 +82,9 @@ IsSegment-segment_at bytes segment clip h =
 known_gives : (w : Walk) (e : Element) (rest : Walk) → known_at w ≡ found e rest → (w ≡ gives e rest) × (e.unknown ≡ false)
 known_gives ends e rest h = absurd cc
 known_gives (breaks fault) e rest h = absurd cc
-known_gives (gives d w) e rest h = by_test d.unknown refl h
-  where
-    by_test : (unknown : Bool) → d.unknown ≡ unknown → cond unknown None (found d w) ≡ found e rest → (gives d w ≡ gives e rest) × (e.unknown ≡ false)
-    by_test true u h = absurd cc
-    by_test false u h =
-        let pairs : (d, w) ≡ (e, rest) = some_is (d, w) (e, rest) (some_is (some (d, w)) (some (e, rest)) h) in
-        (ap (λ (x : Element × Walk). gives x.0 x.1) pairs, ap (λ (x : Element × Walk). x.0.unknown) (sym pairs) ∙ u)
+known_gives (gives d w) e rest h =
+    let k = known_is d.unknown d e w rest h in
+    (ap (λ (x : Element). gives x w) k.1 ∙ ap (gives e) k.2, ap (λ (x : Element). x.unknown) (sym k.1) ∙ k.0)
 
 known_ends : (w : Walk) → known_at w ≡ Some None → w ≡ ends
 known_ends ends h = refl

@@ -16,9 +16,9 @@ Fails-bind other r f h = absurd h
 
 -- ---- seeking
 
--- a step of known size: the element and the walk behind it
-abbrev pub some_step : Element → Walk → Option (Option (Element × Walk))
-some_step e rest = Some (Some (e, rest))
+-- what a seek finds: an element, and the walk behind it
+abbrev pub found : Element → Walk → Option (Option (Element × Walk))
+found e rest = Some (Some (e, rest))
 
 abbrev some_some : Element × Walk → Option (Option (Element × Walk))
 some_some x = Some (Some x)
@@ -26,7 +26,7 @@ some_some x = Some (Some x)
 pair_is : (x y : Element × Walk) → some_some x ≡ some_some y → x ≡ y
 pair_is x y h = cc
 
-known_is : (unknown : Bool) (d e : Element) (w rest : Walk) → cond unknown None (some_step d w) ≡ some_step e rest → (unknown ≡ false) × (d ≡ e) × (w ≡ rest)
+pub known_is : (unknown : Bool) (d e : Element) (w rest : Walk) → cond unknown None (found d w) ≡ found e rest → (unknown ≡ false) × (d ≡ e) × (w ≡ rest)
 known_is true d e w rest h = absurd cc
 known_is false d e w rest h =
     let pairs : (d, w) ≡ (e, rest) = pair_is (d, w) (e, rest) h in
@@ -79,17 +79,17 @@ pub fails_seeking : (fault : ClipFault) (id : ℕ) (refused : List ℕ) (step : 
 fails_seeking fault id refused step w taken total fails same =
     subst (λ (r : Option Taken). Fails fault r) (sym (each_in-seek id refused step w taken) ∙ same) (Fails-bind fault (seek_in id refused w) (go_on id refused step taken) fails)
 
-at_element : (id : ℕ) (refused : List ℕ) (step : Element → Taken → Option Taken) (w : Walk) (taken : Taken) (e : Element) (rest : Walk) → seek_in id refused w ≡ some_step e rest → each_in id refused step w taken ≡ (step e taken >>= each_in id refused step rest)
-at_element id refused step w taken e rest found =
-    each_in-seek id refused step w taken ∙ ap (λ (r : Option (Option (Element × Walk))). r >>= go_on id refused step taken) found
+at_element : (id : ℕ) (refused : List ℕ) (step : Element → Taken → Option Taken) (w : Walk) (taken : Taken) (e : Element) (rest : Walk) → seek_in id refused w ≡ found e rest → each_in id refused step w taken ≡ (step e taken >>= each_in id refused step rest)
+at_element id refused step w taken e rest sought =
+    each_in-seek id refused step w taken ∙ ap (λ (r : Option (Option (Element × Walk))). r >>= go_on id refused step taken) sought
 
-pub fails_taking : (fault : ClipFault) (id : ℕ) (refused : List ℕ) (step : Element → Taken → Option Taken) (w : Walk) (taken : Taken) (total : Option Taken) (e : Element) (rest : Walk) → seek_in id refused w ≡ some_step e rest → Fails fault (step e taken) → each_in id refused step w taken ≡ total → Fails fault total
-fails_taking fault id refused step w taken total e rest found fails same =
-    subst (λ (r : Option Taken). Fails fault r) (sym (at_element id refused step w taken e rest found) ∙ same) (Fails-bind fault (step e taken) (each_in id refused step rest) fails)
+pub fails_taking : (fault : ClipFault) (id : ℕ) (refused : List ℕ) (step : Element → Taken → Option Taken) (w : Walk) (taken : Taken) (total : Option Taken) (e : Element) (rest : Walk) → seek_in id refused w ≡ found e rest → Fails fault (step e taken) → each_in id refused step w taken ≡ total → Fails fault total
+fails_taking fault id refused step w taken total e rest sought fails same =
+    subst (λ (r : Option Taken). Fails fault r) (sym (at_element id refused step w taken e rest sought) ∙ same) (Fails-bind fault (step e taken) (each_in id refused step rest) fails)
 
-pub goes_on : (id : ℕ) (refused : List ℕ) (step : Element → Taken → Option Taken) (w : Walk) (taken : Taken) (total : Option Taken) (e : Element) (rest : Walk) (more : Taken) → seek_in id refused w ≡ some_step e rest → step e taken ≡ Some more → each_in id refused step w taken ≡ total → each_in id refused step rest more ≡ total
-goes_on id refused step w taken total e rest more found took same =
-    ap (λ (r : Option Taken). r >>= each_in id refused step rest) (sym took) ∙ sym (at_element id refused step w taken e rest found) ∙ same
+pub goes_on : (id : ℕ) (refused : List ℕ) (step : Element → Taken → Option Taken) (w : Walk) (taken : Taken) (total : Option Taken) (e : Element) (rest : Walk) (more : Taken) → seek_in id refused w ≡ found e rest → step e taken ≡ Some more → each_in id refused step w taken ≡ total → each_in id refused step rest more ≡ total
+goes_on id refused step w taken total e rest more sought took same =
+    ap (λ (r : Option Taken). r >>= each_in id refused step rest) (sym took) ∙ sym (at_element id refused step w taken e rest sought) ∙ same
 
 pub is_over : (id : ℕ) (refused : List ℕ) (step : Element → Taken → Option Taken) (w : Walk) (taken : Taken) (total : Option Taken) → seek_in id refused w ≡ Some None → each_in id refused step w taken ≡ total → total ≡ Some taken
 is_over id refused step w taken total over same =

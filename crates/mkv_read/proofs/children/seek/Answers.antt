@@ -2,7 +2,7 @@ use Rattle.std.proofs.Common.{◌≡◌, Option, sym, ap, ◌∙◌, Some, arith
 use Rattle.ebml_core.specs.declared.element.Element.{Element}
 use Rattle.ebml_core.specs.Walking.{rest_of}
 use Rattle.mkv_read.specs.Reading.{known_at, with_rest}
-use Rattle.mkv_read.proofs.Steps.{seek_in-past, seek_in-refused, some_step}
+use Rattle.mkv_read.proofs.Steps.{seek_in-past, seek_in-refused, found}
 use Rattle.mkv_read.proofs.children.seek.Goals as goal
 
 pub returns-then-element-wanted-clause-lies : goal.returns-then-element-wanted-clause-lies
@@ -12,13 +12,13 @@ returns-then-element-wanted-clause-lies c =
 
 pub returns-then-contains-clause-exact : goal.returns-then-contains-clause-exact
 returns-then-contains-clause-exact c =
-    let known : known_at (rest_of c.loop-element.children) ≡ some_step c.in-Some.element (rest_of c.known.new.children) = c.in_ok-element.ensures.exact ∙ ap (λ (o : Option Element). Some (with_rest c.known.new.children o)) c.in-Some.is in
+    let known : known_at (rest_of c.loop-element.children) ≡ found c.in-Some.element (rest_of c.known.new.children) = c.in_ok-element.ensures.exact ∙ ap (λ (o : Option Element). Some (with_rest c.known.new.children o)) c.in-Some.is in
     sym c.loop-element.invariant.same ∙ seek_in-refused _ _ _ _ _ known c.if-element-wanted.false (sym c.contains.ensures.value ∙ c.if-contains.true)
 
 pub loop-element-preserved : goal.loop-element-preserved
 loop-element-preserved c =
     let lies = rw c.in-Some.is at c.in_ok-element.ensures.lies in
-    let known : known_at (rest_of c.loop-element.children) ≡ some_step c.in-Some.element (rest_of c.known.new.children) = c.in_ok-element.ensures.exact ∙ ap (λ (o : Option Element). Some (with_rest c.known.new.children o)) c.in-Some.is in
+    let known : known_at (rest_of c.loop-element.children) ≡ found c.in-Some.element (rest_of c.known.new.children) = c.in_ok-element.ensures.exact ∙ ap (λ (o : Option Element). Some (with_rest c.known.new.children o)) c.in-Some.is in
     record {
       same = sym (seek_in-past _ _ _ _ _ known c.if-element-wanted.false (sym c.contains.ensures.value ∙ c.if-contains.false)) ∙ c.loop-element.invariant.same;
       bytes = c.known.ensures.bytes ∙ c.loop-element.invariant.bytes;
