@@ -1,5 +1,5 @@
 -- Reading a plain file: its clip, or nothing where it isn't plain.
-use Rattle.std.specs.Prelude.{◌≡◌, ℕ, ◌+◌, ◌-◌, ◌≤◌, ◌==◌, nat_lt, nat_le, Bool, ◌&&◌, ◌||◌, List, [], ◌∷◌, ◌++◌, length, drop, Option, Some, None, Result, Ok, Err, option_and_then, if◌then◌else◌, bit_and, codes}
+use Rattle.std.specs.Prelude.{◌<◌, ◌≡◌, ℕ, ◌+◌, ◌-◌, ◌≤◌, ◌==◌, nat_lt, nat_le, Bool, ◌&&◌, ◌||◌, List, [], ◌∷◌, ◌++◌, length, drop, Option, Some, None, Result, Ok, Err, option_and_then, if◌then◌else◌, bit_and, codes}
 use Rattle.std.specs.List.{list_any}
 use Rattle.std.specs.Str.{bytes_eq}
 use Rattle.ebml_core.specs.declared.element.Element.{Element}
@@ -37,6 +37,12 @@ Gives view (Err fault) read = Fails fault read
 pub record LiesWithin (end : ℕ) (e : Element) : Type 0 where
   pub content : e.content ≤ e.end
   pub within : e.end ≤ end
+
+-- A walker that gave an element went on from its place, and the element lies before the walk's end.
+pub record Passes (old new : Position) (e : Element) : Type 0 where
+  pub element : LiesWithin old.end e
+  pub forward : old.place < new.place
+  pub order : new.place ≤ new.end
 
 -- that nothing is left
 abbrev pub ended : {X : Type 0} → Option X → Option Unit

@@ -75,7 +75,8 @@ fn take_block(
     packets: &mut Packets,
 ) -> Result<(), ClipFault>
     requires { LiesWithin (length bytes.now) element }
-    ensures { Gives (λ done. taken_of packets.new) result (take_block bytes.now track timestamp element (taken_of packets.old)) }
+    ensures { Gives (λ done. taken_of packets.new) result
+        (take_block bytes.now track timestamp element (taken_of packets.old)) }
 {
     let block = block_at(track, timestamp, element.content, content(bytes, element))?;
     if block.time < packets.last || packets.places.len() >= MAX_FRAMES {
@@ -95,7 +96,8 @@ pub fn take_cluster(
     packets: &mut Packets,
 ) -> Result<(), ClipFault>
     requires { LiesWithin (length bytes.now) cluster }
-    ensures { Gives (λ done. taken_of packets.new) result (take_cluster bytes.now track cluster (taken_of packets.old)) }
+    ensures { Gives (λ done. taken_of packets.new) result
+        (take_cluster bytes.now track cluster (taken_of packets.old)) }
 {
     let mut children = Walker::over(bytes, cluster.content, cluster.end);
     let Some(timestamp) = seek(&mut children, TIMESTAMP, &[SIMPLE_BLOCK, BLOCK_GROUP])? else {
@@ -115,7 +117,9 @@ fn take_blocks(
 ) -> Result<(), ClipFault>
     requires bytes { children.old.bytes ≡ bytes.now }
     requires end { children.old.end ≤ length bytes.now }
-    ensures { Gives (λ done. taken_of packets.new) result (each_in SIMPLE_BLOCK (TIMESTAMP ∷ BLOCK_GROUP ∷ []) (take_block bytes.now track timestamp) (rest_of children.old) (taken_of packets.old)) }
+    ensures { Gives (λ done. taken_of packets.new) result
+        (each_in SIMPLE_BLOCK (TIMESTAMP ∷ BLOCK_GROUP ∷ []) (take_block bytes.now track timestamp)
+        (rest_of children.old) (taken_of packets.old)) }
 {
     while let Some(block) = seek(children, SIMPLE_BLOCK, &[TIMESTAMP, BLOCK_GROUP])? {
         take_block(bytes, track, timestamp, block, packets)?;

@@ -1,9 +1,9 @@
-ghost use Rattle.std.specs.Prelude.{◌≡◌, ◌==◌, ◌+◌, ◌<◌, ◌≤◌, [], length, IfOk, IfSome, MatchResult};
+ghost use Rattle.std.specs.Prelude.{◌≡◌, ◌==◌, ◌≤◌, [], length, IfOk, IfSome, MatchResult};
 ghost use Rattle.std.specs.List.{position_or_len};
 ghost use Rattle.std.specs.Str.{bytes_eq};
 ghost use Rattle.ebml_core.specs.Walking.{rest_of};
 ghost use Rattle.mkv_read.specs.Plain.{content_of, text_of};
-ghost use Rattle.mkv_read.specs.Reading.{Gives, with_rest, known_at, seek_in, only_at, none_at, number_at, LiesWithin};
+ghost use Rattle.mkv_read.specs.Reading.{Gives, with_rest, known_at, seek_in, only_at, none_at, number_at, LiesWithin, Passes};
 
 use crate::fault::ClipFault;
 use ebml_core::{Element, Walker, unsigned};
@@ -13,7 +13,7 @@ pub fn known(children: &mut Walker<'_>) -> Result<Option<Element>, ClipFault>
     ensures exact { Gives (with_rest children.new) result (known_at (rest_of children.old)) }
     ensures bytes { children.new.bytes ≡ children.old.bytes }
     ensures end { children.new.end ≡ children.old.end }
-    ensures lies { IfOk result (λ found. IfSome found (λ e. LiesWithin children.old.end e × (children.old.place < children.new.place) × (children.new.place ≤ children.new.end))) }
+    ensures passes { IfOk result (λ found. IfSome found (Passes children.old children.new)) }
 {
     match children.next() {
         Ok(None) => Ok(None),
@@ -38,7 +38,7 @@ pub fn seek(
     ensures exact { Gives (with_rest children.new) result (seek_in wanted refused.now (rest_of children.old)) }
     ensures bytes { children.new.bytes ≡ children.old.bytes }
     ensures end { children.new.end ≡ children.old.end }
-    ensures lies { IfOk result (λ found. IfSome found (λ e. LiesWithin children.old.end e × (children.old.place < children.new.place) × (children.new.place ≤ children.new.end))) }
+    ensures passes { IfOk result (λ found. IfSome found (Passes children.old children.new)) }
 {
     while let Some(element) = known(children)? {
         if element.id == wanted {

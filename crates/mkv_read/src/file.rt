@@ -22,8 +22,10 @@ use std::alloc::Global;
 pub fn read_clip(alloc: Global, bytes: &[u8]) -> Result<ClipIndex, ClipFault>
     ensures plain { IfOk result (IsPlainFile bytes.now) }
     ensures later { result ≡ Err ClipFault.Later → (clip : ClipIndex) → IsPlainFile bytes.now clip → ⊥ }
-    ensures none_other { IfErr result (λ fault. (fault ≡ ClipFault.Later) ⊎ (fault ≡ ClipFault.NoMemory)) }
-    ensures within { IfOk result (λ clip. LiesBefore (length bytes.now) clip.private × AllByRecursion (LiesBefore (length bytes.now)) clip.packets) }
+    ensures none_other { IfErr result
+        (λ fault. (fault ≡ ClipFault.Later) ⊎ (fault ≡ ClipFault.NoMemory)) }
+    ensures within { IfOk result (λ clip. LiesBefore (length bytes.now) clip.private
+        × AllByRecursion (LiesBefore (length bytes.now)) clip.packets) }
 {
     plain_clip(alloc, bytes)
 }
@@ -41,7 +43,8 @@ fn plain_clip(alloc: Global, bytes: &[u8]) -> Result<ClipIndex, ClipFault>
 #[tactic(auto, unfolding(crate::specs::Reading::masters_at))]
 fn masters(bytes: &[u8]) -> Result<(Element, Element), ClipFault>
     ensures exact { Gives (λ masters. masters) result (masters_at bytes.now) }
-    ensures lie { IfOk result (λ masters. LiesWithin (length bytes.now) masters.0 × LiesWithin (length bytes.now) masters.1) }
+    ensures lie { IfOk result (λ masters. LiesWithin (length bytes.now) masters.0
+        × LiesWithin (length bytes.now) masters.1) }
 {
     let mut file = Walker::over(bytes, 0, bytes.len() as u64);
     let Some(header) = known(&mut file)? else {
@@ -104,7 +107,9 @@ fn packets(
 ) -> Result<Packets, ClipFault>
     requires bytes { children.old.bytes ≡ bytes.now }
     requires end { children.old.end ≤ length bytes.now }
-    ensures { Gives taken_of result (each_in CLUSTER (TRACKS ∷ []) (take_cluster bytes.now track) (rest_of children.old) (record { packets = []; last = 0 })) }
+    ensures { Gives taken_of result
+        (each_in CLUSTER (TRACKS ∷ []) (take_cluster bytes.now track)
+        (rest_of children.old) (record { packets = []; last = 0 })) }
 {
     let mut packets = Packets {
         places: Vec::new(alloc),
