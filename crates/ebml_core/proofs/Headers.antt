@@ -1,8 +1,8 @@
 -- An element that is read at the front of a text is spelled there, and one that is spelled there is read.
-use Rattle.std.proofs.Common.{◌≡◌, ℕ, suc, ◌+◌, ◌-◌, ◌<◌, ◌≤◌, Bool, cond, ltb, true, false, List, [], ◌∷◌, ◌++◌, length, take, drop, Option, Some, None, Result, Ok, Err, refl, sym, ap, subst, ◌∙◌, append_assoc, arith}
+use Rattle.std.proofs.Common.{◌≡◌, ℕ, suc, ◌+◌, ◌-◌, ◌<◌, ◌≤◌, Bool, cond, ltb, true, false, List, [], ◌∷◌, ◌++◌, length, take, drop, Some, None, Result, Ok, Err, refl, sym, ap, subst, ◌∙◌, append_assoc, arith}
 use Rattle.std.proofs.lemmas.Bool.{true≢false, le-ltb, ltb-false}
 use Rattle.std.proofs.lemmas.Bool.Decides.{nat_tests}
-use Rattle.std.proofs.lemmas.List.{length-append, length-take-le, length-drop, take_at, drop_at, take-append-drop, drop-drop}
+use Rattle.std.proofs.lemmas.List.{length-append, length-take-le, length-drop, drop_at, take-append-drop, drop-drop}
 use Rattle.ebml_core.specs.declared.vint.Size.{Size}
 use Rattle.ebml_core.specs.declared.vint.Size.TheVariants.{Known, Unknown}
 use Rattle.ebml_core.specs.declared.vint.VintFault.{VintFault}
@@ -10,7 +10,7 @@ use Rattle.ebml_core.specs.declared.vint.VintFault.TheVariants.{Short, BadVint}
 use Rattle.ebml_core.specs.declared.element.Element.{Element}
 use Rattle.ebml_core.specs.declared.element.Header.{Header}
 use Rattle.ebml_core.specs.declared.element.EbmlFault.{EbmlFault}
-use Rattle.ebml_core.specs.Spelling.{unsigned_of, size_of, IsVint, Piece, IsPiece, spelling, element_of}
+use Rattle.ebml_core.specs.Spelling.{unsigned_of, size_of, Piece, IsPiece, spelling, element_of, IsSize, IsVint}
 use Rattle.ebml_core.specs.Reading.{◌>>=◌, octet_count, vint_at, id_at, size_at, header_at, sized, laid, found, element_at}
 use Rattle.ebml_core.proofs.Numbers.{AreBytes, AreBytes-drop}
 use Rattle.ebml_core.proofs.Vints.{ok_is, passed, vint_takes, vint_again}
@@ -220,3 +220,19 @@ element_at-end place (octet ∷ rest) h = absurd (is_found (laid place (suc (len
     is_found : (r : Result Element EbmlFault) → found r ≡ Ok None → ⊥
     is_found (Ok e) h = cc
     is_found (Err fault) h = cc
+
+-- ---- a size alone
+
+pub size_at-takes : (text : List ℕ) (size : Size) (octets : ℕ) → AreBytes text → size_at text ≡ Ok (size, octets) → IsSize (take octets text) size × (octets ≤ length text)
+unfolding size_at
+size_at-takes text size octets fits h =
+    let a = bind_ok (vint_at 8 text) (λ octets. Ok (size_of octets, length octets)) (size, octets) h in
+    let v = vint_takes 8 text a.0 (omega arith) fits a.1 in
+    let pair = size_pair_is (size_of a.0, length a.0) (size, octets) a.2 in
+    let len : length a.0 ≡ octets = ap (λ (x : Size × ℕ). x.1) pair in
+    let front : a.0 ≡ take octets text = v.front ∙ ap (λ (n : ℕ). take n text) len in
+    ((subst (λ (x : List ℕ). IsVint 8 x) front v.vint, ap (λ (x : Size × ℕ). x.0) (sym pair) ∙ ap size_of front), omega (arith, v.long, len))
+
+pub size_at-again : (octets rest : List ℕ) (size : Size) → IsSize octets size → size_at (octets ++ rest) ≡ Ok (size, length octets)
+unfolding size_at
+size_at-again octets rest size is = rw (vint_again 8 octets rest (omega arith) is.0, ← is.1) refl

@@ -1,7 +1,7 @@
 -- What octets stand for, and what the first of them tells.
-use Rattle.std.proofs.Common.{◌≡◌, ℕ, zero, suc, ◌+◌, ◌-◌, ◌*◌, ◌^◌, ◌<◌, ◌≤◌, List, [], ◌∷◌, length, take, drop, get_or, refl, sym, ap, ◌∙◌, arith}
+use Rattle.std.proofs.Common.{◌≡◌, ℕ, zero, suc, ◌+◌, ◌*◌, ◌^◌, ◌<◌, ◌≤◌, List, [], ◌∷◌, length, take, drop, get_or, ◌∙◌, arith}
 use Rattle.std.specs.List.{fold, AllByRecursion}
-use Rattle.std.proofs.Math.Nat.{pow-suc, mul-le-mul_left, mul_comm}
+use Rattle.std.proofs.Math.Nat.{pow-suc, mul-le-mul_left}
 use Rattle.ebml_core.specs.Spelling.{unsigned_of}
 
 abbrev pub AreBytes : List ℕ → Type 0

@@ -1,11 +1,10 @@
 -- The bytes spell elements in one way at most.
-use Rattle.std.proofs.Common.{◌≡◌, ℕ, ◌+◌, ◌-◌, ◌<◌, ◌≤◌, List, [], ◌∷◌, ◌++◌, length, take, drop, Result, Ok, Err, refl, sym, ap, subst, ◌∙◌, append_assoc, arith}
+use Rattle.std.proofs.Common.{◌≡◌, ℕ, ◌≤◌, List, [], ◌∷◌, ◌++◌, length, take, drop, refl, sym, ap, ◌∙◌, append_assoc, arith}
 use Rattle.std.specs.List.{flat_map, AllByRecursion}
-use Rattle.std.proofs.lemmas.List.{length-append, take_at, drop_at, append_cancel_left, append-nil, nil_from_length}
+use Rattle.std.proofs.lemmas.List.{length-append, take_at, drop_at, append_cancel_left}
 use Rattle.ebml_core.specs.declared.vint.Size.{Size}
 use Rattle.ebml_core.specs.declared.vint.Size.TheVariants.{Known}
-use Rattle.ebml_core.specs.declared.vint.VintFault.{VintFault}
-use Rattle.ebml_core.specs.Spelling.{unsigned_of, size_of, IsVint, IsId, IsSize, Piece, IsPiece, Spells, spelling}
+use Rattle.ebml_core.specs.Spelling.{unsigned_of, size_of, IsVint, Piece, IsPiece, spelling}
 use Rattle.ebml_core.specs.Reading.{vint_at}
 use Rattle.ebml_core.proofs.Vints.{vint_again, ok_is}
 

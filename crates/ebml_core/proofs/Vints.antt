@@ -3,7 +3,7 @@ use Rattle.std.proofs.Common.{◌≡◌, ℕ, zero, suc, ◌+◌, ◌-◌, ◌*�
 use Rattle.std.proofs.Math.Nat.{pow-suc, mul-le-mul_left}
 use Rattle.std.proofs.lemmas.Bool.{cases_lt, le-ltb, ltb-false}
 use Rattle.std.proofs.lemmas.Bool.Decides.{nat_tests}
-use Rattle.std.proofs.lemmas.List.{length-append, length-take-le, take_at}
+use Rattle.std.proofs.lemmas.List.{length-append, length-take-le, take_at, take-append-drop}
 use Rattle.ebml_core.specs.declared.vint.VintFault.{VintFault}
 use Rattle.ebml_core.specs.declared.vint.VintFault.TheVariants.{Short, BadVint}
 use Rattle.ebml_core.specs.Spelling.{unsigned_of, IsVint}
@@ -172,3 +172,11 @@ vint_again most (first ∷ tail) rest le v =
     let allowed : ltb most (octet_count first) ≡ false = le-ltb _ _ (omega (arith, v.count)) in
     let long : ltb (suc (length (tail ++ rest))) (octet_count first) ≡ false = le-ltb _ _ (omega (arith, length-append tail rest)) in
     rw (allowed, long, count, take_at tail rest (length tail) refl) refl
+
+-- Where nothing is read, no front of the text is a variable size integer.
+pub vint_none : (most : ℕ) (text : List ℕ) (fault : VintFault) (len : ℕ) → most ≤ 8 → vint_at most text ≡ Err fault → IsVint most (take len text) → ⊥
+vint_none most text fault len le failed v =
+    ok_err (take len text) fault (sym (vint_again most (take len text) (drop len text) le v) ∙ ap (vint_at most) (take-append-drop len text) ∙ failed)
+  where
+    ok_err : (octets : List ℕ) (fault : VintFault) → ok octets ≡ Err fault → ⊥
+    ok_err octets fault e = cc

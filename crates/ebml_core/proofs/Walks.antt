@@ -1,12 +1,12 @@
 -- A walk gives exactly the elements that the bytes spell.
-use Rattle.std.proofs.Common.{◌≡◌, ℕ, zero, suc, false, ◌+◌, ◌-◌, ◌<◌, ◌≤◌, List, [], ◌∷◌, ◌++◌, length, take, drop, Option, Some, None, Result, Ok, Err, refl, sym, ap, subst, ◌∙◌, append_assoc, arith}
+use Rattle.std.proofs.Common.{◌≡◌, ℕ, zero, suc, false, ◌+◌, ◌-◌, ◌<◌, ◌≤◌, List, [], ◌∷◌, ◌++◌, length, take, drop, Option, Some, None, Result, Ok, Err, refl, sym, ap, ◌∙◌, arith}
 use Rattle.std.specs.List.{flat_map, AllByRecursion}
-use Rattle.std.proofs.lemmas.List.{length-append, length-drop, drop_at}
+use Rattle.std.proofs.lemmas.List.{length-drop, length-take, drop_at, drop-take, drop-drop}
 use Rattle.ebml_core.specs.declared.element.Element.{Element}
 use Rattle.ebml_core.specs.declared.element.EbmlFault.{EbmlFault}
-use Rattle.ebml_core.specs.Spelling.{Piece, IsPiece, Spells, spelling, element_of, elements_from}
+use Rattle.ebml_core.specs.Spelling.{Piece, IsPiece, Spells, spelling, element_of, elements_from, between}
 use Rattle.ebml_core.specs.Reading.{element_at}
-use Rattle.ebml_core.specs.Walking.{Walk, ends, breaks, gives, onward, walk_upto, walk, whole}
+use Rattle.ebml_core.specs.Walking.{Walk, ends, gives, onward, walk_upto, walk, whole, Position, ahead, place_after, rest_of, given}
 use Rattle.ebml_core.proofs.Numbers.{AreBytes, AreBytes-drop}
 use Rattle.ebml_core.proofs.Headers.{element_at-advances, element_at-stands, element_at-again, element_at-end}
 
@@ -74,3 +74,24 @@ walk-again place (p ∷ ps) each =
     let first : element_at place text ≡ Ok (Some (element_of place p)) = element_at-again place p (flat_map spelling ps) each.0 in
     let rest : drop (place + length (spelling p) - place) text ≡ flat_map spelling ps = drop_at (spelling p) (flat_map spelling ps) _ (omega arith) in
     walk-step place text ∙ ap (λ (r : Result (Option Element) EbmlFault). onward r (λ e. walk e.end (drop (e.end - place) text))) first ∙ ap (gives (element_of place p)) (ap (walk (place + length (spelling p))) rest ∙ walk-again (place + length (spelling p)) ps each.1)
+
+drop-between : (bytes : List ℕ) (from mid to : ℕ) → from ≤ mid → mid ≤ to → drop (mid - from) (between bytes from to) ≡ between bytes mid to
+drop-between bytes from mid to le le2 =
+    let parts : to - from ≡ (mid - from) + (to - mid) = omega arith in
+    ap (λ (n : ℕ). drop (mid - from) (take n (drop from bytes))) parts ∙ drop-take (mid - from) (to - mid) (drop from bytes) ∙ ap (take (to - mid)) (drop-drop (mid - from) from bytes ∙ ap (λ (n : ℕ). drop n bytes) (omega arith))
+
+-- What a walker has yet to give is what it answers next, and then what it has yet to give.
+pub rest_of-given : (p : Position) (r : Result (Option Element) EbmlFault) → p.place ≤ p.end → element_at p.place (ahead p) ≡ r → rest_of p ≡ given r (rest_of (record p { place = place_after p.place r }))
+rest_of-given p (Ok None) order is = walk-step p.place (ahead p) ∙ rw is refl
+rest_of-given p (Ok (Some e)) order is =
+    let a = element_at-advances p.place (ahead p) e is in
+    let on = drop-between p.bytes p.place e.end p.end (omega (arith, a.more)) (omega (arith, a.within, length-take (p.end - p.place) (drop p.place p.bytes))) in
+    walk-step p.place (ahead p) ∙ rw is (ap (λ (text : List ℕ). gives e (walk e.end text)) on)
+rest_of-given p (Err fault) order is = walk-step p.place (ahead p) ∙ rw is refl
+
+pub rest_of-end : (p : Position) → p.place ≡ p.end → rest_of p ≡ ends
+unfolding element_at
+rest_of-end p at_end =
+    let none_left : p.end - p.place ≡ 0 = omega arith in
+    let empty : ahead p ≡ [] = ap (λ (n : ℕ). take n (drop p.place p.bytes)) none_left in
+    walk-step p.place (ahead p) ∙ rw empty refl

@@ -1,5 +1,5 @@
 -- Reading one element from the front of a text, with its first fault (RFC 8794 sections 4 to 6).
-use Rattle.std.specs.Prelude.{◌≡◌, ℕ, ◌+◌, ◌<◌, ◌≤◌, List, [], ◌∷◌, length, take, drop, Option, Some, None, Result, Ok, Err, nat_lt, nat_le, true, false, if◌then◌else◌}
+use Rattle.std.specs.Prelude.{ℕ, ◌+◌, List, [], ◌∷◌, length, take, drop, Option, Some, None, Result, Ok, Err, nat_lt, nat_le, true, false, if◌then◌else◌}
 use Rattle.ebml_core.specs.declared.vint.Size.{Size}
 use Rattle.ebml_core.specs.declared.vint.Size.TheVariants.{Known, Unknown}
 use Rattle.ebml_core.specs.declared.vint.VintFault.{VintFault}

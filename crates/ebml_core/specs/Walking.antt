@@ -1,5 +1,5 @@
 -- Going from element to element (RFC 8794 section 6), up to the end or to the first fault.
-use Rattle.std.specs.Prelude.{◌≡◌, ℕ, zero, suc, ◌+◌, ◌-◌, ◌<◌, ◌≤◌, List, [], ◌∷◌, length, take, drop, Option, Some, None, Result, Ok, Err, IfOk, IfSome}
+use Rattle.std.specs.Prelude.{◌≡◌, ℕ, zero, suc, ◌-◌, ◌<◌, ◌≤◌, List, [], ◌∷◌, length, drop, Option, Some, None, Result, Ok, Err}
 use Rattle.ebml_core.specs.declared.element.Element.{Element}
 use Rattle.ebml_core.specs.declared.element.EbmlFault.{EbmlFault}
 use Rattle.ebml_core.specs.Spelling.{between}
@@ -52,3 +52,13 @@ walk place text = walk_upto (suc (length text)) place text
 abbrev pub whole : List Element → Walk
 whole [] = ends
 whole (e ∷ es) = gives e (whole es)
+
+-- what a walker has yet to give
+abbrev pub rest_of : Position → Walk
+rest_of p = walk p.place (ahead p)
+
+-- a walk that gives this first, and then the rest
+abbrev pub given : Result (Option Element) EbmlFault → Walk → Walk
+given (Ok None) rest = ends
+given (Ok (Some e)) rest = gives e rest
+given (Err fault) rest = breaks fault

@@ -1,4 +1,5 @@
-ghost use Rattle.std.specs.Prelude.{◌≡◌, ℕ, ◌+◌, ◌-◌, ◌*◌, ◌^◌, ◌<◌, ◌≤◌, length, take, IfOk, MatchResult};
+ghost use Rattle.std.specs.Prelude.{◌≡◌, ℕ, ◌+◌, ◌-◌, ◌*◌, ◌^◌, ◌<◌, ◌≤◌, length, take, IfOk, OnErr, MatchResult};
+ghost use Rattle.ebml_core.specs.declared.vint.Size.{Size};
 ghost use Rattle.ebml_core.specs.Spelling.{IsVint, IsId, IsSize, unsigned_of, size_of};
 ghost use Rattle.ebml_core.specs.Reading.{octet_count, vint_at, id_at, size_at};
 
@@ -43,9 +44,11 @@ fn octet_count(first: u8) -> usize
 #[tactic(auto, unfolding(crate::specs::Reading::vint_at))]
 fn vint(bytes: &[u8], most: usize) -> Result<&[u8], VintFault>
     requires { most ≤ 8 }
-    ensures exact { MatchResult result (λ octets. vint_at most bytes.now ≡ Ok octets.now) (λ fault. vint_at most bytes.now ≡ Err fault) }
+    ensures exact { MatchResult result (λ octets. vint_at most bytes.now ≡ Ok octets.now)
+        (λ fault. vint_at most bytes.now ≡ Err fault) }
     ensures spelled { IfOk result (λ octets. IsVint most octets.now) }
-    ensures front { IfOk result (λ octets. (octets.now ≡ take (length octets.now) bytes.now) × (1 ≤ length octets.now) × (length octets.now ≤ length bytes.now)) }
+    ensures front { IfOk result (λ octets. (octets.now ≡ take (length octets.now) bytes.now)
+        × (1 ≤ length octets.now) × (length octets.now ≤ length bytes.now)) }
 {
     let Some(first) = bytes.first() else {
         return Err(VintFault::Short);
@@ -81,7 +84,11 @@ fn size_of(octets: &[u8]) -> Size
 #[tactic(auto, unfolding(crate::specs::Reading::id_at))]
 pub fn vint_id(bytes: &[u8]) -> Result<(u32, u8), VintFault>
     // What is read is an id, and stands at the front.
-    ensures id { IfOk result (λ x. IsId (take x.1 bytes.now) x.0 × (1 ≤ x.1) × (x.1 ≤ length bytes.now)) }
+    ensures id { IfOk result (λ x. IsId (take x.1 bytes.now) x.0
+        × (1 ≤ x.1) × (x.1 ≤ length bytes.now)) }
+
+    // An error comes only where no front of the bytes is an id.
+    ensures none { OnErr result ((len id : ℕ) → IsId (take len bytes.now) id → ⊥) }
     ensures exact { result ≡ id_at bytes.now }
 {
     let octets = vint(bytes, 4)?;
@@ -92,7 +99,11 @@ pub fn vint_id(bytes: &[u8]) -> Result<(u32, u8), VintFault>
 #[tactic(auto, unfolding(crate::specs::Reading::size_at))]
 pub fn vint_size(bytes: &[u8]) -> Result<(Size, u8), VintFault>
     // What is read is a size, and stands at the front.
-    ensures size { IfOk result (λ x. IsSize (take x.1 bytes.now) x.0 × (1 ≤ x.1) × (x.1 ≤ length bytes.now)) }
+    ensures size { IfOk result (λ x. IsSize (take x.1 bytes.now) x.0
+        × (1 ≤ x.1) × (x.1 ≤ length bytes.now)) }
+
+    // An error comes only where no front of the bytes is a size.
+    ensures none { OnErr result ((len : ℕ) (size : Size) → IsSize (take len bytes.now) size → ⊥) }
     ensures exact { result ≡ size_at bytes.now }
 {
     let octets = vint(bytes, 8)?;

@@ -1,6 +1,6 @@
 ghost use Rattle.std.specs.Prelude.{◌≡◌, ℕ, ◌+◌, ◌-◌, ◌^◌, ◌*◌, ◌<◌, ◌≤◌, length, IfOk, IfSome};
 ghost use Rattle.ebml_core.specs.Reading.{header_at, sized, element_at, found};
-ghost use Rattle.ebml_core.specs.Walking.{Position, ahead, place_after, LiesAt};
+ghost use Rattle.ebml_core.specs.Walking.{Position, ahead, place_after, LiesAt, rest_of, given};
 
 use crate::element::{EbmlFault, EbmlWhy, Element, Header};
 use crate::vint::{Size, VintFault, vint_id, vint_size};
@@ -106,6 +106,9 @@ impl<'a> Walker<'a> {
         ensures exact { result ≡ element_at self.old.place (ahead self.old) }
         ensures place { self.new ≡ record self.old { place = place_after self.old.place result } }
         ensures lies { IfOk result (λ found. IfSome found (LiesAt self.old.place self.old.end)) }
+
+        // What the walk still gives is this answer, and then what it gives from here on.
+        ensures walk { rest_of self.old ≡ given result (rest_of self.new) }
     {
         if self.place == self.end {
             return Ok(None);

@@ -1,13 +1,20 @@
-// A library with one function.
+//! Reads Matroska files (RFC 9559): where the configuration record and the packets of their FFV1 track lie.
+//!
+//! For now a file has to be plain, as `specs/Plain.antt` says; every other is `Later`.
 #![tactic(auto)]
 
-ghost use Rattle.std.specs.Prelude.{◌≡◌};
-ghost use Rattle.mkv_read.specs.Echo.{echo_of};
+mod block;
+mod children;
+mod clip;
+mod fault;
+mod file;
+mod laws;
+mod track;
 
-// The `ensures` clause is the contract: what `echo` returns is `echo_of` of its argument, a definition
-// in `specs/Echo.antt`, which a caller's clause can cite too.
-pub fn echo(x: usize) -> usize
-    ensures { result ≡ echo_of x }
-{
-    x
-}
+pub use clip::{ClipIndex, MAX_FRAMES, MAX_PRIVATE, MAX_SIDE, Place, Places};
+pub use fault::{ClipFault, Which};
+pub use file::read_clip;
+pub use laws::one_clip;
+
+#[cfg(test)]
+mod tests;

@@ -1,5 +1,5 @@
 use Rattle.std.proofs.Common.{ap, sym, ◌∙◌}
-use Rattle.ebml_core.specs.Spelling.{between, elements_from}
+use Rattle.ebml_core.specs.Spelling.{between}
 use Rattle.ebml_core.specs.Walking.{walk, whole}
 use Rattle.ebml_core.proofs.Numbers.{AreBytes-take, AreBytes-drop}
 use Rattle.ebml_core.proofs.Walks.{walk-lies, walk-again}
