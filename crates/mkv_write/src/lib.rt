@@ -1,0 +1,13 @@
+//! Writes FFV1 packets as a Matroska file, one Cluster at a time.
+#![tactic(auto)]
+
+mod cluster;
+mod cue;
+mod element;
+mod fault;
+mod head;
+mod history;
+mod put;
+
+pub use cluster::CLUSTER_FRAMES;
+pub use fault::WriteFault;
