@@ -14,6 +14,10 @@ pub record Writing : Type 0 where
   pub rate : ℕ
   pub packets : List (List ℕ)
 
+-- A file of which no packet was given yet.
+abbrev pub nothing_yet : (private : List ℕ) (width height rate : ℕ) → Writing
+nothing_yet private width height rate = record { private = private; width = width; height = height; rate = rate; packets = [] }
+
 -- The same with one more packet.
 abbrev pub with_packet : Writing → List ℕ → Writing
 with_packet w packet = record w { packets = w.packets ++ packet ∷ [] }

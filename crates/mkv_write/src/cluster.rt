@@ -1,6 +1,6 @@
 //! Clusters, and the blocks in them.
 
-ghost use Rattle.std.specs.Prelude.{◌≡◌, ◌++◌, ◌+◌, ◌-◌, ◌<◌, ◌≤◌, ◌^◌, length, OnOk, OnErr, IfOk, IsSome};
+ghost use Rattle.std.specs.Prelude.{◌≡◌, ◌++◌, ◌+◌, ◌-◌, ◌*◌, ◌/◌, ◌<◌, ◌≤◌, ◌^◌, length, OnOk, OnErr, IfOk, IsSome};
 ghost use Rattle.tl_ports.specs.Outside.{KeepsBegun};
 ghost use Rattle.mkv_write.specs.File.{frame_time, simple_block, cluster_of};
 ghost use Rattle.mkv_write.specs.History.{packet_of};
@@ -28,6 +28,22 @@ pub(crate) fn frame_time(rate: u32, frame: u32) -> u64
     ensures { result ≡ frame_time rate frame }
 {
     (1000 * u64::from(frame) + u64::from(rate / 2)) / u64::from(rate)
+}
+
+/// The time of the Cluster that a frame is in.
+pub(crate) fn cluster_time(rate: u32, frame: u32) -> u64
+    requires { 1 ≤ rate }
+    ensures { result ≡ frame_time rate (CLUSTER_FRAMES * (frame / CLUSTER_FRAMES)) }
+{
+    frame_time(rate, CLUSTER_FRAMES * (frame / CLUSTER_FRAMES))
+}
+
+/// The time of a frame after its Cluster's.
+pub(crate) fn block_time(rate: u32, frame: u32) -> u16
+    requires { 1 ≤ rate }
+    ensures { result ≡ frame_time rate frame - frame_time rate (CLUSTER_FRAMES * (frame / CLUSTER_FRAMES)) }
+{
+    (frame_time(rate, frame) - cluster_time(rate, frame)) as u16
 }
 
 /// Appends a SimpleBlock of track 1, a key frame: the time after its Cluster's, and the packet. After a refusal
@@ -95,4 +111,34 @@ pub(crate) fn put_cluster<V: Vault>(
     let head = cluster_head(alloc, time, blocks)?;
     put_both(vault, &head, blocks)?;
     Ok(())
+}
+
+/// Puts a Cluster of these blocks and one more, which is then appended to them. After a refusal they are as before.
+pub(crate) fn put_full_cluster<V: Vault>(
+    alloc: Global,
+    vault: &mut V,
+    time: u64,
+    blocks: &mut Vec<u8>,
+    block_time: u16,
+    packet: &[u8],
+) -> Result<Given, WriteFault>
+    requires begun { IsSome (V.begun vault.old) }
+    requires fits { length blocks.old.items < 2 ^ 61 }
+    requires size { length packet.now ≤ 2 ^ 40 }
+    ensures ok { OnOk result (blocks.new.items ≡ blocks.old.items ++ simple_block block_time packet.now) }
+    ensures given { IfOk result (λ given. packet_of given ≡ packet.now) }
+    ensures err { OnErr result (blocks.new.items ≡ blocks.old.items) }
+    ensures put { Appends V.tells (V.held vault.old) (V.held vault.new) (cluster_of time (blocks.old.items ++ simple_block block_time packet.now)) result }
+    ensures kept { KeepsBegun V.tells V.begun V.file V.faults vault.old vault.new }
+    ensures cause { WriteHasCause (V.faults vault.old) (V.faults vault.new) result }
+{
+    let before = blocks.len();
+    let given = put_block(blocks, block_time, packet)?;
+    match put_cluster(alloc, vault, time, blocks) {
+        Ok(()) => Ok(given),
+        Err(fault) => {
+            blocks.truncate(before);
+            Err(fault)
+        }
+    }
 }

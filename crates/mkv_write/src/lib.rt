@@ -8,6 +8,8 @@ mod fault;
 mod head;
 mod history;
 mod put;
+mod writer;
 
 pub use cluster::CLUSTER_FRAMES;
 pub use fault::WriteFault;
+pub use writer::{MkvWriter, put_is_prefix};
