@@ -23,3 +23,12 @@ pub prefix_first : (before first second after : List ℕ) → IsPrefix after (be
 prefix_first before first second after h =
     let more = prefix_append after (before ++ first) second h in
     (more.0, sym (append_assoc before first second) ∙ more.1)
+
+pub prefix_trans : (a b c : List ℕ) → IsPrefix a b → IsPrefix b c → IsPrefix a c
+prefix_trans a b c first second =
+    (first.0 ++ second.0, second.1 ∙ ap (λ (x : List ℕ). x ++ second.0) first.1 ∙ append_assoc a first.0 second.0)
+
+-- behind a common front
+pub prefix_under : (front a b : List ℕ) → IsPrefix a b → IsPrefix (front ++ a) (front ++ b)
+prefix_under front a b h =
+    (h.0, ap (λ (x : List ℕ). front ++ x) h.1 ∙ sym (append_assoc front a h.0))

@@ -68,7 +68,7 @@ unfoldable pub cluster : (rate : ℕ) (packets : List (List ℕ)) (index : ℕ) 
 cluster rate packets index =
     let first = CLUSTER_FRAMES * index in
     let time = frame_time rate first in
-    element 4 CLUSTER 8 (number 1 TIMESTAMP 8 time ++ blocks rate time first (take CLUSTER_FRAMES (drop first packets)))
+    cluster_of time (blocks rate time first (take CLUSTER_FRAMES (drop first packets)))
 
 -- The first Clusters.
 unfoldable pub clusters : (rate : ℕ) (packets : List (List ℕ)) (count : ℕ) → List ℕ

@@ -1,0 +1,29 @@
+-- What was put against the whole file.
+use Rattle.std.proofs.Common.{◌≡◌, ℕ, ◌+◌, ◌*◌, ◌/◌, ◌≤◌, List, [], ◌∷◌, ◌++◌, length, sym, ap, ◌∙◌, subst, append_assoc, arith, length-append}
+use Rattle.std.proofs.lemmas.List.{append-nil}
+use Rattle.mkv_write.specs.File.{mkv, head, lead, clusters, cluster_count, cues}
+use Rattle.mkv_write.specs.Writing.{Writing, with_packet, put_of, file_of, IsPrefix}
+use Rattle.mkv_write.proofs.Clusters.{clusters-append, clusters-le}
+use Rattle.mkv_write.proofs.Prefix.{prefix_append, prefix_under}
+
+-- fewer Clusters than the file has
+pub some_clusters : (w : Writing) (count : ℕ) → count ≤ cluster_count (length w.packets) → IsPrefix (head w.private w.width w.height ++ clusters w.rate w.packets count) (file_of w)
+unfolding mkv
+some_clusters w count few =
+    let total = cluster_count (length w.packets) in
+    let front : List ℕ = head w.private w.width w.height in
+    prefix_append (front ++ clusters w.rate w.packets count) (front ++ clusters w.rate w.packets total) (cues (length (lead w.private w.width w.height)) w.rate w.packets total)
+    (prefix_under front (clusters w.rate w.packets count) (clusters w.rate w.packets total) (clusters-le w.rate w.packets count total few))
+
+pub put_of-prefix : (w : Writing) (more : List (List ℕ)) → IsPrefix (put_of w) (file_of (record w { packets = w.packets ++ more }))
+put_of-prefix w more =
+    let all : List (List ℕ) = w.packets ++ more in
+    let count : ℕ = length w.packets / 25 in
+    let same : clusters w.rate all count ≡ clusters w.rate w.packets count = clusters-append w.rate w.packets more count (omega arith) in
+    let few : count ≤ cluster_count (length all) = omega (arith, length-append w.packets more) in
+    let front : List ℕ = head w.private w.width w.height in
+    subst (λ (x : List ℕ). IsPrefix (front ++ x) (file_of (record w { packets = all }))) same (some_clusters (record w { packets = all }) count few)
+
+-- at once
+pub put_of-prefix_now : (w : Writing) → IsPrefix (put_of w) (file_of w)
+put_of-prefix_now w = some_clusters w (length w.packets / 25) (omega arith)
