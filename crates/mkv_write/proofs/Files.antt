@@ -1,8 +1,10 @@
 -- What was put against the whole file.
 use Rattle.std.proofs.Common.{◌≡◌, ℕ, ◌+◌, ◌*◌, ◌/◌, ◌≤◌, List, [], ◌∷◌, ◌++◌, length, sym, ap, ◌∙◌, subst, append_assoc, arith, length-append}
-use Rattle.std.proofs.lemmas.List.{append-nil}
+use Rattle.std.proofs.lemmas.Bool.{false≢true}
+use Rattle.std.specs.Prelude.{Result, Ok, Err, IsErr}
+use Rattle.mkv_write.specs.declared.fault.WriteFault.{WriteFault}
 use Rattle.mkv_write.specs.File.{mkv, head, lead, clusters, cluster_count, cues}
-use Rattle.mkv_write.specs.Writing.{Writing, with_packet, put_of, file_of, IsPrefix}
+use Rattle.mkv_write.specs.Writing.{Writing, with_packet, put_of, file_of, IsPrefix, Puts}
 use Rattle.mkv_write.proofs.Clusters.{clusters-append, clusters-le}
 use Rattle.mkv_write.proofs.Prefix.{prefix_append, prefix_under}
 
@@ -27,3 +29,13 @@ put_of-prefix w more =
 -- at once
 pub put_of-prefix_now : (w : Writing) → IsPrefix (put_of w) (file_of w)
 put_of-prefix_now w = some_clusters w (length w.packets / 25) (omega arith)
+
+-- after a fault
+pub puts_err : {T : Type 0} (tells : Type 0) (held put file : List ℕ) (result : Result T WriteFault) → IsErr result → (tells → IsPrefix held file) → Puts tells held put file result
+puts_err tells held put file (Ok value) fails is = absurd (false≢true fails)
+puts_err tells held put file (Err fault) fails is = is
+
+-- a fault before anything was put
+pub unput : (held : List ℕ) (w : Writing) (packet : List ℕ) → held ≡ put_of w → IsPrefix held (file_of (with_packet w packet))
+unput held w packet e =
+    subst (λ (x : List ℕ). IsPrefix x (file_of (with_packet w packet))) (sym e) (put_of-prefix w (packet ∷ []))

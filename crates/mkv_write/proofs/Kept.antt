@@ -1,6 +1,6 @@
 -- What a writer keeps, from one packet to the next.
 use Rattle.std.proofs.Common.{◌≡◌, ℕ, suc, ◌+◌, ◌-◌, ◌*◌, ◌/◌, ◌%◌, ◌^◌, ◌<◌, ◌≤◌, List, [], ◌∷◌, ◌++◌, length, map, refl, sym, ap, ◌∙◌, append_assoc, arith, length-append}
-use Rattle.std.proofs.lemmas.List.{length_push, map_push}
+use Rattle.std.proofs.lemmas.List.{length_push, map_push, flat_map_more}
 use Rattle.mkv_write.specs.declared.cue.Cue.{Cue}
 use Rattle.mkv_write.specs.declared.history.Given.{Given}
 use Rattle.mkv_write.specs.History.{packet_of}
@@ -100,3 +100,15 @@ keeps_ended w frames place place' bytes cues cues' packet keeps room size last p
 pub packets-push : (givens givens' : List Given) (given : Given) (packet : List ℕ) → givens' ≡ givens ++ given ∷ [] → packet_of given ≡ packet → map packet_of givens' ≡ map packet_of givens ++ packet ∷ []
 packets-push givens givens' given packet added is =
     ap (map packet_of) added ∙ map_push packet_of givens given ∙ ap (λ (x : List ℕ). map packet_of givens ++ x ∷ []) is
+
+pub put_of-ended : (w : Writing) (frames place : ℕ) (bytes : List ℕ) (cues : List Cue) (packet : List ℕ) (time block_time : ℕ) → Keeps w frames place bytes cues → length w.packets % 25 ≡ 24 → time ≡ frame_time w.rate (25 * (frames / 25)) → block_time ≡ frame_time w.rate frames - frame_time w.rate (25 * (frames / 25)) → put_of w ++ cluster_of time (bytes ++ simple_block block_time packet) ≡ put_of (with_packet w packet)
+put_of-ended w frames place bytes cues packet time block_time keeps last time-is block_time-is =
+    let frames_are : frames ≡ length w.packets = keeps.frames_are in
+    let front : List ℕ = put_of w in
+    ap (λ (k : ℕ). front ++ cluster_of time (bytes ++ simple_block k packet)) block_time-is ∙ ap (λ (k : ℕ). front ++ cluster_of k (bytes ++ next_block w.rate frames packet)) time-is ∙ ap (λ (x : List ℕ). front ++ cluster_of (frame_time w.rate (25 * (frames / 25))) (x ++ next_block w.rate frames packet)) keeps.open_are ∙ ap (λ (k : ℕ). front ++ cluster_of (frame_time w.rate (25 * (k / 25))) (open_blocks w ++ next_block w.rate k packet)) frames_are ∙ sym (put_of-last w packet last)
+
+-- one more Cue
+pub points_of-push : (cues cues' : List Cue) (cue : Cue) → cues' ≡ cues ++ cue ∷ [] → points_of cues' ≡ points_of cues ++ cue_point cue.time cue.place
+points_of-push cues cues' cue added =
+    let spelled : Cue → List ℕ = λ cue. cue_point cue.time cue.place in
+    ap points_of added ∙ sym (flat_map_more spelled [] cues cue)
