@@ -1,10 +1,12 @@
 -- What was put against the whole file.
-use Rattle.std.proofs.Common.{◌≡◌, ℕ, ◌+◌, ◌*◌, ◌/◌, ◌≤◌, List, [], ◌∷◌, ◌++◌, length, sym, ap, ◌∙◌, subst, append_assoc, arith, length-append}
+use Rattle.std.proofs.Common.{◌≡◌, ℕ, ◌+◌, ◌*◌, ◌/◌, ◌≤◌, List, [], ◌∷◌, ◌++◌, length, refl, sym, ap, ◌∙◌, subst, append_assoc, arith, length-append}
 use Rattle.std.proofs.lemmas.Bool.{false≢true}
 use Rattle.std.specs.Prelude.{Result, Ok, Err, IsErr}
 use Rattle.mkv_write.specs.declared.fault.WriteFault.{WriteFault}
-use Rattle.mkv_write.specs.File.{mkv, head, lead, clusters, cluster_count, cues}
-use Rattle.mkv_write.specs.Writing.{Writing, with_packet, put_of, file_of, IsPrefix, Puts}
+use Rattle.mkv_elements.specs.declared.TheConstants.{CUES}
+use Rattle.mkv_write.specs.File.{mkv, ebml_header, segment_head, element, head, lead, clusters, cluster_count, cue_points, cues}
+use Rattle.std.proofs.lemmas.List.{append-nil}
+use Rattle.mkv_write.specs.Writing.{Writing, nothing_yet, with_packet, put_of, file_of, IsPrefix, Puts}
 use Rattle.mkv_write.proofs.Clusters.{clusters-append, clusters-le}
 use Rattle.mkv_write.proofs.Prefix.{prefix_append, prefix_under}
 
@@ -39,3 +41,16 @@ puts_err tells held put file (Err fault) fails is = is
 pub unput : (held : List ℕ) (w : Writing) (packet : List ℕ) → held ≡ put_of w → IsPrefix held (file_of (with_packet w packet))
 unput held w packet e =
     subst (λ (x : List ℕ). IsPrefix x (file_of (with_packet w packet))) (sym e) (put_of-prefix w (packet ∷ []))
+
+pub file_of-is : (w : Writing) → file_of w ≡ (head w.private w.width w.height ++ clusters w.rate w.packets (cluster_count (length w.packets))) ++ element 4 CUES 8 (cue_points (length (lead w.private w.width w.height)) w.rate w.packets (cluster_count (length w.packets)))
+unfolding mkv cues
+file_of-is w = refl
+
+-- all but the Cues
+pub no_cues-prefix : (w : Writing) → IsPrefix (head w.private w.width w.height ++ clusters w.rate w.packets (cluster_count (length w.packets))) (file_of w)
+no_cues-prefix w = some_clusters w (cluster_count (length w.packets)) (omega arith)
+
+-- all that stands before the first Cluster
+pub put_of-nothing : (private : List ℕ) (width height rate : ℕ) → (ebml_header ++ segment_head) ++ lead private width height ≡ put_of (nothing_yet private width height rate)
+unfolding head clusters
+put_of-nothing private width height rate = sym (append-nil ((ebml_header ++ segment_head) ++ lead private width height))

@@ -1,14 +1,14 @@
 -- What a writer keeps, from one packet to the next.
-use Rattle.std.proofs.Common.{◌≡◌, ℕ, suc, ◌+◌, ◌-◌, ◌*◌, ◌/◌, ◌%◌, ◌^◌, ◌<◌, ◌≤◌, List, [], ◌∷◌, ◌++◌, length, map, refl, sym, ap, ◌∙◌, append_assoc, arith, length-append}
+use Rattle.std.proofs.Common.{◌≡◌, ◌≢◌, ℕ, suc, ◌+◌, ◌-◌, ◌*◌, ◌/◌, ◌%◌, ◌^◌, ◌<◌, ◌≤◌, List, [], ◌∷◌, ◌++◌, length, map, refl, sym, ap, ◌∙◌, append_assoc, arith, length-append}
 use Rattle.std.proofs.lemmas.List.{length_push, map_push, flat_map_more}
 use Rattle.mkv_write.specs.declared.cue.Cue.{Cue}
 use Rattle.mkv_write.specs.declared.history.Given.{Given}
 use Rattle.mkv_write.specs.History.{packet_of}
-use Rattle.mkv_write.specs.File.{frame_time, head, simple_block, cluster_of, cluster, clusters, cluster_count, cluster_place, cue_point, cue_points}
-use Rattle.mkv_write.specs.Writing.{Writing, with_packet, put_of}
+use Rattle.mkv_write.specs.File.{frame_time, head, lead, blocks, simple_block, cluster_of, cluster, clusters, cluster_count, cluster_place, cue_point, cue_points}
+use Rattle.mkv_write.specs.Writing.{Writing, nothing_yet, with_packet, put_of}
 use Rattle.mkv_write.specs.Keeping.{Keeps, open_blocks, lead_length, points_of}
 use Rattle.mkv_write.proofs.Clusters.{open_at, open_at-push, open_at-none, cluster-last, clusters-append, cluster_place-append, cue_points-append}
-use Rattle.mkv_write.proofs.Lengths.{length-simple_block, length-cluster_of}
+use Rattle.mkv_write.proofs.Lengths.{length-simple_block, length-cluster_of, length-lead}
 
 -- the block of a frame in the open Cluster
 abbrev pub next_block : (rate frame : ℕ) (packet : List ℕ) → List ℕ
@@ -112,3 +112,53 @@ pub points_of-push : (cues cues' : List Cue) (cue : Cue) → cues' ≡ cues ++ c
 points_of-push cues cues' cue added =
     let spelled : Cue → List ℕ = λ cue. cue_point cue.time cue.place in
     ap points_of added ∙ sym (flat_map_more spelled [] cues cue)
+
+-- a packet that isn't the last of its Cluster puts nothing
+pub put_of-gathered : (w : Writing) (packet : List ℕ) → length w.packets % 25 < 24 → put_of w ≡ put_of (with_packet w packet)
+put_of-gathered w packet early =
+    let n : ℕ = length w.packets / 25 in
+    let all : List (List ℕ) = w.packets ++ packet ∷ [] in
+    let front : List ℕ = head w.private w.width w.height in
+    let len : length all ≡ length w.packets + 1 = length_push w.packets packet in
+    let same : n ≡ length all / 25 = omega arith in
+    ap (λ (x : List ℕ). front ++ x) (sym (clusters-append w.rate w.packets (packet ∷ []) n (omega arith))) ∙ ap (λ (k : ℕ). front ++ clusters w.rate all k) same
+
+-- the Cluster that isn't full, at the end
+pub put_of-rest : (w : Writing) (frames place : ℕ) (bytes : List ℕ) (cues : List Cue) (time : ℕ) → Keeps w frames place bytes cues → frames % 25 ≢ 0 → time ≡ frame_time w.rate (25 * (frames / 25)) → put_of w ++ cluster_of time bytes ≡ head w.private w.width w.height ++ clusters w.rate w.packets (cluster_count (length w.packets))
+unfolding clusters
+put_of-rest w frames place bytes cues time keeps some time-is =
+    let n : ℕ = length w.packets / 25 in
+    let front : List ℕ = head w.private w.width w.height in
+    let full : List ℕ = clusters w.rate w.packets n in
+    let frames_are : frames ≡ length w.packets = keeps.frames_are in
+    let rest : 0 < frames % 25 = omega arith in
+    let count : suc n ≡ cluster_count (length w.packets) = omega arith in
+    let this : cluster w.rate w.packets n ≡ cluster_of (frame_time w.rate (25 * n)) (open_blocks w) = cluster-last w.rate w.packets n (omega arith) ∙ ap (cluster_of (frame_time w.rate (25 * n))) (sym (open_blocks-is w)) in
+    ap (λ (k : ℕ). (front ++ full) ++ cluster_of k bytes) time-is ∙ ap (λ (x : List ℕ). (front ++ full) ++ cluster_of (frame_time w.rate (25 * (frames / 25))) x) keeps.open_are ∙ ap (λ (k : ℕ). (front ++ full) ++ cluster_of (frame_time w.rate (25 * (k / 25))) (open_blocks w)) frames_are ∙ ap (λ (x : List ℕ). (front ++ full) ++ x) (sym this) ∙ append_assoc front full (cluster w.rate w.packets n) ∙ ap (λ (k : ℕ). front ++ clusters w.rate w.packets k) count
+
+pub points_of-rest : (w : Writing) (frames place : ℕ) (bytes : List ℕ) (cues cues' : List Cue) (time : ℕ) → Keeps w frames place bytes cues → frames % 25 ≢ 0 → points_of cues' ≡ points_of cues ++ cue_point time place → time ≡ frame_time w.rate (25 * (frames / 25)) → points_of cues' ≡ cue_points (lead_length w) w.rate w.packets (cluster_count (length w.packets))
+unfolding cue_points
+points_of-rest w frames place bytes cues cues' time keeps some added time-is =
+    let n : ℕ = length w.packets / 25 in
+    let lead : ℕ = lead_length w in
+    let full : List ℕ = cue_points lead w.rate w.packets n in
+    let frames_are : frames ≡ length w.packets = keeps.frames_are in
+    let rest : 0 < frames % 25 = omega arith in
+    let count : suc n ≡ cluster_count (length w.packets) = omega arith in
+    added ∙ ap (λ (k : ℕ). points_of cues ++ cue_point k place) time-is ∙ ap (λ (x : List ℕ). x ++ cue_point (frame_time w.rate (25 * (frames / 25))) place) keeps.cues_are ∙ ap (λ (k : ℕ). full ++ cue_point (frame_time w.rate (25 * (k / 25))) place) frames_are ∙ ap (λ (k : ℕ). full ++ cue_point (frame_time w.rate (25 * n)) k) keeps.place_is ∙ ap (cue_points lead w.rate w.packets) count
+
+-- before the first packet
+pub keeps_nothing : (private : List ℕ) (width height rate place : ℕ) → 1 ≤ rate → rate ≤ 240 → length private ≤ 65536 → place ≡ length (lead private width height) → Keeps (nothing_yet private width height rate) 0 place [] []
+unfolding blocks clusters cluster_place cue_points
+keeps_nothing private width height rate place above limit size place-is =
+    let bytes = length-lead private width height in
+    record {
+      rate_above = above;
+      rate_limit = limit;
+      frames_are = refl;
+      frames_limit = omega arith;
+      open_are = refl;
+      cues_are = refl;
+      place_is = omega arith;
+      bytes_limit = omega arith;
+    }
