@@ -2,7 +2,7 @@
 
 ghost use Rattle.std.specs.Prelude.{◌≡◌, ℕ, ◌+◌, ◌≤◌, None, IfErr, OnOk, vec_len};
 ghost use Rattle.std.specs.Io.{StartsWith};
-ghost use Rattle.tl_ports.specs.Stream.{NamesLimit};
+ghost use Rattle.tl_ports.specs.Stream.{IsOver};
 
 use crate::fault::FetchFault;
 use crate::ports::Store;
@@ -52,7 +52,7 @@ impl<R: Files> Store for FolderStore<'_, R> {
 fn read_file<R: Files>(rt: &R, name: &str, limit: u64, into: &mut Vec<u8>) -> Result<(), FetchFault>
     ensures front { StartsWith into.new.items into.old.items }
     ensures within { OnOk result (vec_len into.new ≤ vec_len into.old + limit) }
-    ensures told { IfErr result (NamesLimit limit) }
+    ensures over { IfErr result (IsOver limit None) }
 {
     let mut file = match fs::open(rt, name) {
         Ok(file) => file,
@@ -78,7 +78,7 @@ fn read_file<R: Files>(rt: &R, name: &str, limit: u64, into: &mut Vec<u8>) -> Re
 }
 
 fn fault_of(kind: ErrorKind) -> FetchFault
-    ensures { (limit : ℕ) → NamesLimit limit result }
+    ensures { (limit : ℕ) → IsOver limit None result }
 {
     match kind {
         ErrorKind::NotFound => FetchFault::Missing,
