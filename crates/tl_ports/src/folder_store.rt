@@ -21,6 +21,7 @@ pub struct FolderStore<'a, R: Files> {
 }
 
 impl<'a, R: Files> FolderStore<'a, R> {
+    /// A store with no faults yet.
     pub fn start(rt: &'a R) -> FolderStore<'a, R>
         ensures { ⟦<FolderStore<'a, R> as Store>⟧.faults result ≡ 0 }
     {
@@ -35,10 +36,16 @@ impl<R: Files> Store for FolderStore<'_, R> {
 
     ghost faults = { λ store. store.faults };
 
+    /// `Missing` where the system knows no such file, `TooLarge` where it has more than `limit` bytes, `NoMemory` where
+    /// there is no room for it, and `Failed` at any other error, as at a folder.
     fn fetch(&mut self, name: &str, limit: u64, into: &mut Vec<u8>) -> Result<(), FetchFault> {
         let before = into.len();
         match read_file(self.rt, name, limit, into) {
             Ok(()) => Ok(()),
+            Err(FetchFault::NoMemory) => {
+                into.truncate(before);
+                Err(FetchFault::NoMemory)
+            }
             Err(fault) => {
                 into.truncate(before);
                 self.faults = self.faults.saturating_add(1);

@@ -45,7 +45,7 @@ impl Sink for MemSink {
 
     ghost faults = { λ sink. sink.plan.faults };
 
-    /// Fails exactly where its number is in the list, and adds the first half of the piece then.
+    /// Where its number is in the list it adds the first half of the piece and answers `Failed`.
     fn put(&mut self, bytes: &[u8]) -> Result<(), PutFault>
         ensures added { Adds (⟦<MemSink as Sink>⟧.contents self.old) (⟦<MemSink as Sink>⟧.contents self.new) bytes.now result }
         ensures later { ⟦<MemSink as Sink>⟧.faults self.old ≤ ⟦<MemSink as Sink>⟧.faults self.new }

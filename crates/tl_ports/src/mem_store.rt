@@ -52,7 +52,7 @@ impl Store for MemStore {
 
     ghost faults = { λ store. store.plan.faults };
 
-    /// Fails exactly where its number is in the list.
+    /// Answers `Failed` exactly where its number is in the list.
     fn fetch(&mut self, name: &str, limit: u64, into: &mut Vec<u8>) -> Result<(), FetchFault>
         ensures fetched { Fetches (Unit {0}) (⟦<MemStore as Store>⟧.file self.old name.now) limit into.old.items into.new.items (Rose (⟦<MemStore as Store>⟧.faults self.old) (⟦<MemStore as Store>⟧.faults self.new)) result }
         ensures files { (other : List ℕ) → ⟦<MemStore as Store>⟧.file self.new other ≡ ⟦<MemStore as Store>⟧.file self.old other }

@@ -58,7 +58,7 @@ impl Vault for MemVault {
 
     ghost held_is = { λ told vault name begun. file_in-latest vault.is_open vault.files.files.items name begun };
 
-    /// Fails exactly where its number is in the list. After any refusal the file is as before.
+    /// Answers `Failed` exactly where its number is in the list. After any refusal the file is as before.
     fn begin(&mut self, name: &str) -> Result<(), PutFault>
         requires { ⟦<MemVault as Vault>⟧.begun self.old ≡ None }
         ensures begun { Begins (Unit {0}) name.now (⟦<MemVault as Vault>⟧.begun self.new) (⟦<MemVault as Vault>⟧.file self.old name.now) (⟦<MemVault as Vault>⟧.file self.new name.now) result }
@@ -82,7 +82,7 @@ impl Vault for MemVault {
         }
     }
 
-    /// Fails exactly where its number is in the list, and adds the first half of the piece then.
+    /// Where its number is in the list it adds the first half of the piece and answers `Failed`.
     fn append(&mut self, bytes: &[u8]) -> Result<(), PutFault>
         requires { IsSome (⟦<MemVault as Vault>⟧.begun self.old) }
         ensures added { Adds (⟦<MemVault as Vault>⟧.held self.old) (⟦<MemVault as Vault>⟧.held self.new) bytes.now result }
@@ -96,7 +96,7 @@ impl Vault for MemVault {
         Ok(())
     }
 
-    /// Fails exactly where its number is in the list.
+    /// Answers `Failed` exactly where its number is in the list. The file is ended then too.
     fn end(&mut self) -> Result<(), PutFault>
         requires { IsSome (⟦<MemVault as Vault>⟧.begun self.old) }
         ensures begun { ⟦<MemVault as Vault>⟧.begun self.new ≡ None }
