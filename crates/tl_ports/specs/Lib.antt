@@ -1,1 +1,4 @@
+pub mod FaultPlan
+pub mod FileList
 pub mod Outside
+pub mod Stream

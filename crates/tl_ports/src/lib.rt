@@ -2,7 +2,28 @@
 #![tactic(auto)]
 
 mod fault;
+mod fault_plan;
+mod file_list;
+mod file_sink;
+mod folder_store;
+mod folder_vault;
+mod mem_sink;
+mod mem_store;
+mod mem_vault;
+mod out_sink;
 mod ports;
+mod stream;
 
 pub use fault::{FetchFault, PutFault};
+pub use fault_plan::FaultPlan;
+pub use file_sink::FileSink;
+pub use folder_store::FolderStore;
+pub use folder_vault::FolderVault;
+pub use mem_sink::MemSink;
+pub use mem_store::MemStore;
+pub use mem_vault::MemVault;
+pub use out_sink::OutSink;
 pub use ports::{Sink, Store, Vault};
+
+#[cfg(test)]
+mod tests;

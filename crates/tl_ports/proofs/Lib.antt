@@ -1,0 +1,3 @@
+pub mod FileLemmas
+pub mod PlanLemmas
+pub mod StreamLemmas

@@ -1,0 +1,136 @@
+//! Each object by its trait: the path that succeeds, and each refusal.
+
+ghost use Rattle.std.specs.Prelude.{◌≡◌, None};
+
+use crate::{
+    FetchFault, FileSink, FolderStore, FolderVault, MemSink, MemStore, MemVault, OutSink, PutFault,
+    Sink, Store, Vault,
+};
+use std::process::Abort;
+use std::test::Fail;
+
+/// What another thread may be given.
+fn is_sent<T: Send>(_value: &T) {}
+
+/// Writes a file in two pieces.
+fn save<V: Vault>(vault: &mut V, name: &str, first: &[u8], second: &[u8]) -> Result<(), PutFault>
+    requires { V.begun vault.old ≡ None }
+    ensures { V.begun vault.new ≡ None }
+{
+    vault.begin(name)?;
+    let first_put = vault.append(first);
+    let second_put = vault.append(second);
+    let ended = vault.end();
+    first_put?;
+    second_put?;
+    ended
+}
+
+/// Fetches behind the byte 9, and compares the answer and the buffer.
+fn fetches<S: Store>(
+    rt: &(impl Abort + AllocGlobal),
+    store: &mut S,
+    name: &str,
+    limit: u64,
+    answer: Result<(), FetchFault>,
+    text: &[u8],
+) -> Result<(), Fail> {
+    let mut into = vec![in rt.alloc(); 9u8]?;
+    let outcome = store.fetch(name, limit, &mut into);
+    assert!(rt; outcome == answer, "the answer for {name}");
+    assert_eq!(rt; into.len(), text.len() + 1);
+    assert!(rt; into[0] == 9 && &into[1..] == text, "the buffer for {name}");
+    Ok(())
+}
+
+/// Puts three pieces of three bytes, and compares the answers.
+fn puts<S: Sink>(rt: &impl Abort, sink: &mut S, second: Result<(), PutFault>) {
+    assert!(rt; sink.put(b"one") == Ok(()));
+    assert!(rt; sink.put(b"two") == second);
+    assert!(rt; sink.put(b"six") == Ok(()));
+}
+
+#[test]
+fn memory(rt: HostRuntime) -> Result<(), Fail> {
+    let alloc = rt.alloc();
+    let mut store = MemStore::start(alloc, vec![in alloc; 4]?);
+    store.add("a", vec![in alloc; 7]?)?;
+    store.add("b", vec![in alloc; 0]?)?;
+    store.add("a", vec![in alloc; 1, 2, 3]?)?;
+    fetches(&rt, &mut store, "a", 3, Ok(()), &[1, 2, 3])?;
+    fetches(&rt, &mut store, "b", 3, Ok(()), &[0])?;
+    fetches(&rt, &mut store, "c", 3, Err(FetchFault::Missing), &[])?;
+    fetches(&rt, &mut store, "a", 3, Err(FetchFault::Failed), &[])?;
+    fetches(
+        &rt,
+        &mut store,
+        "a",
+        2,
+        Err(FetchFault::TooLarge { limit: 2 }),
+        &[],
+    )?;
+    is_sent(&store);
+
+    let mut vault = MemVault::start(alloc, vec![in alloc; 6]?);
+    assert!(rt; save(&mut vault, "a", &[1, 2], &[3]) == Ok(()));
+    assert!(rt; save(&mut vault, "b", &[4, 5, 6], &[7]) == Err(PutFault::Failed));
+    assert!(rt; save(&mut vault, "a", &[], &[8]) == Ok(()));
+    assert!(rt; vault.file("a") == Some([8].as_slice()));
+    assert!(rt; vault.file("b") == Some([4, 7].as_slice()));
+    assert!(rt; vault.file("c").is_none());
+    is_sent(&vault);
+
+    let mut sink = MemSink::start(alloc, vec![in alloc; 2]?);
+    puts(&rt, &mut sink, Err(PutFault::Failed));
+    assert!(rt; sink.bytes() == b"onetsix".as_slice());
+    is_sent(&sink);
+    Ok(())
+}
+
+#[test]
+fn folder(rt: HostRuntime) -> Result<(), Fail> {
+    let alloc = rt.alloc();
+    // More than one read.
+    let large = vec![in alloc; 5u8; 600_000]?;
+    let mut vault = FolderVault::start(&rt);
+    assert!(rt; save(&mut vault, "a", &[1; 40], &[2]) == Ok(()));
+    assert!(rt; save(&mut vault, "a", &[1, 2], &[3]) == Ok(()));
+    assert!(rt; save(&mut vault, "./large", large.as_slice(), &[]) == Ok(()));
+    assert!(rt; save(&mut vault, "none/a", &[], &[]) == Err(PutFault::Failed));
+    is_sent(&vault);
+
+    let mut store = FolderStore::start(&rt);
+    fetches(&rt, &mut store, "a", 3, Ok(()), &[1, 2, 3])?;
+    fetches(&rt, &mut store, "large", u64::MAX, Ok(()), large.as_slice())?;
+    fetches(
+        &rt,
+        &mut store,
+        "a",
+        2,
+        Err(FetchFault::TooLarge { limit: 2 }),
+        &[],
+    )?;
+    fetches(&rt, &mut store, "b", 3, Err(FetchFault::Missing), &[])?;
+    fetches(&rt, &mut store, ".", 3, Err(FetchFault::Failed), &[])?;
+    is_sent(&store);
+    Ok(())
+}
+
+#[test]
+fn file_sink(rt: HostRuntime) -> Result<(), Fail> {
+    let mut sink = FileSink::start(&rt, String::from_str(rt.alloc(), "out")?);
+    puts(&rt, &mut sink, Ok(()));
+    is_sent(&sink);
+    let mut store = FolderStore::start(&rt);
+    fetches(&rt, &mut store, "out", 9, Ok(()), b"onetwosix")?;
+    let mut nowhere = FileSink::start(&rt, String::from_str(rt.alloc(), "none/out")?);
+    assert!(rt; nowhere.put(&[]) == Err(PutFault::Failed));
+    Ok(())
+}
+
+#[test]
+fn out_sink(rt: HostRuntime) {
+    let mut sink = OutSink::start(&rt);
+    puts(&rt, &mut sink, Ok(()));
+    is_sent(&sink);
+}
