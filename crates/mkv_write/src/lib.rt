@@ -13,3 +13,6 @@ mod writer;
 pub use cluster::CLUSTER_FRAMES;
 pub use fault::WriteFault;
 pub use writer::{MkvWriter, put_is_prefix};
+
+#[cfg(test)]
+mod tests;
