@@ -29,7 +29,7 @@ pub struct MkvWriter {
     rate: u32,
     frames: u32,
     /// The blocks of the open Cluster.
-    blocks: Vec<u8>,
+    gathered: Vec<u8>,
     /// The full Clusters.
     cues: Vec<Cue>,
     /// Where the open Cluster will begin in the Segment's content.
@@ -46,7 +46,7 @@ impl Model for MkvWriter {
 
     ghost view = { λ w. writing_of w.history w.rate };
 
-    ghost invariant = { λ w. Keeps (writing_of w.history w.rate) w.frames w.place w.blocks.items w.cues.items };
+    ghost invariant = { λ w. Keeps (writing_of w.history w.rate) w.frames w.place w.gathered.items w.cues.items };
 }
 
 impl MkvWriter {
@@ -80,7 +80,7 @@ impl MkvWriter {
             history,
             rate,
             frames: 0,
-            blocks: Vec::new(alloc),
+            gathered: Vec::new(alloc),
             cues: Vec::new(alloc),
             place: lead.len() as u64,
         })
@@ -118,7 +118,7 @@ impl MkvWriter {
     {
         self.history.packets.reserve(1)?;
         let time = block_time(self.rate, self.frames);
-        let given = put_block(&mut self.blocks, time, packet)?;
+        let given = put_block(&mut self.gathered, time, packet)?;
         self.history.packets.push_reserved(given);
         self.frames += 1;
         Ok(())
@@ -145,7 +145,7 @@ impl MkvWriter {
             self.alloc,
             vault,
             time,
-            &mut self.blocks,
+            &mut self.gathered,
             block_time,
             packet,
         )?;
@@ -153,8 +153,8 @@ impl MkvWriter {
             time,
             place: self.place,
         });
-        self.place += CLUSTER_HEAD + self.blocks.len() as u64;
-        self.blocks.clear();
+        self.place += CLUSTER_HEAD + self.gathered.len() as u64;
+        self.gathered.clear();
         self.history.packets.push_reserved(given);
         self.frames += 1;
         Ok(())
@@ -189,29 +189,15 @@ impl MkvWriter {
         ensures cause { WriteHasCause (V.faults vault.old) (V.faults vault.new) result }
     {
         if self.frames % CLUSTER_FRAMES == 0 {
-            let MkvWriter {
-                alloc: _,
-                history: _,
-                rate: _,
-                frames: _,
-                blocks: _,
-                cues,
-                place: _,
-            } = self;
-            return Ok(cues);
+            return Ok(self.cues);
         }
-        let MkvWriter {
-            alloc,
-            history: _,
-            rate,
-            frames,
-            blocks,
-            mut cues,
-            place,
-        } = self;
-        let time = cluster_time(rate, frames);
-        put_cluster(alloc, vault, time, &blocks)?;
-        cues.push(Cue { time, place })?;
+        let time = cluster_time(self.rate, self.frames);
+        put_cluster(self.alloc, vault, time, &self.gathered)?;
+        let mut cues = self.cues;
+        cues.push(Cue {
+            time,
+            place: self.place,
+        })?;
         Ok(cues)
     }
 }

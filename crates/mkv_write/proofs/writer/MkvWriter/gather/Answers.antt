@@ -15,4 +15,4 @@ invariant_of-self-2 c =
     let added = packets-push inside.history.packets.items c.push_reserved.new.self.items c.in_ok-given.given c.args.packet.now (c.push_reserved.ensures.items ∙ ap (λ (x : List _). x ++ c.in_ok-given.given ∷ []) c.in_ok-reserve.ensures.items) c.in_ok-given.ensures.given in
     let block = c.in_ok-given.ensures.ok in
     subst (λ (packets : List (List ℕ)). Keeps (record w { packets = packets }) (inside.frames + 1) inside.place c.put_block.new.out.items inside.cues.items) (sym added)
-    (keeps_gathered w inside.frames inside.place inside.blocks.items c.put_block.new.out.items inside.cues.items c.args.packet.now c.self.invariant (omega arith) c.requires.size early (rw (← c.block_time-time.ensures) block))
+    (keeps_gathered w inside.frames inside.place inside.gathered.items c.put_block.new.out.items inside.cues.items c.args.packet.now c.self.invariant (omega arith) c.requires.size early (rw (← c.block_time-time.ensures) block))

@@ -12,6 +12,11 @@ use Rattle.mkv_write.proofs.writer.MkvWriter.start.Goals as goal
 nothing-prefix : (held whole : List ℕ) → held ≡ [] → IsPrefix held whole
 nothing-prefix held whole e = (whole, ap (λ (x : List ℕ). x ++ whole) (sym e))
 
+-- what is held with the head
+held_then : (private : List ℕ) (width height rate : ℕ) (held first second : List ℕ) → held ≡ [] → first ≡ ebml_header ++ segment_head → second ≡ lead private width height → held ++ (first ++ second) ≡ put_of (nothing_yet private width height rate)
+held_then private width height rate held first second held-is first-is second-is =
+    ap (λ (x : List ℕ). x ++ (first ++ second)) held-is ∙ ap (λ (x : List ℕ). x ++ second) first-is ∙ ap (λ (x : List ℕ). (ebml_header ++ segment_head) ++ x) second-is ∙ put_of-nothing private width height rate
+
 pub returns-in_err-history-clause-put : goal.returns-in_err-history-clause-put
 returns-in_err-history-clause-put g c =
     puts_err _ _ _ _ _ c.from_residual.ensures.0 (λ t. nothing-prefix _ _ (c.requires.empty t))
@@ -27,9 +32,8 @@ returns-in_err-lead-clause-put g c =
 pub returns-in_err-put_both-clause-put : goal.returns-in_err-put_both-clause-put
 returns-in_err-put_both-clause-put g c =
     let w : Writing = nothing_yet c.args.private.now c.args.width c.args.height c.args.rate in
-    let bytes : c.deref.result.now ++ c.deref-2.result.now ≡ put_of w = ap (λ (x : List ℕ). x ++ c.deref-2.result.now) (c.deref.ensures.value ∙ c.in_ok-preamble.ensures) ∙ ap (λ (x : List ℕ). (ebml_header ++ segment_head) ++ x) (c.deref-2.ensures.value ∙ c.in_ok-lead.ensures) ∙ put_of-nothing c.args.private.now c.args.width c.args.height c.args.rate in
     puts_err _ _ _ _ _ c.from_residual-in_err-put_both.ensures.0
-    (λ t. prefix_trans _ _ _ (c.in_err-put_both.ensures.put t) (subst (λ (x : List ℕ). IsPrefix x (file_of w)) (sym (ap (λ (x : List ℕ). x ++ (c.deref.result.now ++ c.deref-2.result.now)) (c.requires.empty t) ∙ bytes)) (put_of-prefix_now w)))
+    (λ t. prefix_trans _ _ _ (c.in_err-put_both.ensures.put t) (subst (λ (x : List ℕ). IsPrefix x (file_of w)) (sym (held_then c.args.private.now c.args.width c.args.height c.args.rate _ _ _ (c.requires.empty t) (c.deref.ensures.value ∙ c.in_ok-preamble.ensures) (c.deref-2.ensures.value ∙ c.in_ok-lead.ensures))) (put_of-prefix_now w)))
 
 pub invariant_of-result : goal.invariant_of-result
 invariant_of-result g c =
@@ -43,6 +47,4 @@ invariant_of-result g c =
 
 pub returns-clause-put : goal.returns-clause-put
 returns-clause-put g c =
-    let w : Writing = nothing_yet c.args.private.now c.args.width c.args.height c.args.rate in
-    let bytes : c.deref.result.now ++ c.deref-2.result.now ≡ put_of w = ap (λ (x : List ℕ). x ++ c.deref-2.result.now) (c.deref.ensures.value ∙ c.in_ok-preamble.ensures) ∙ ap (λ (x : List ℕ). (ebml_header ++ segment_head) ++ x) (c.deref-2.ensures.value ∙ c.in_ok-lead.ensures) ∙ put_of-nothing c.args.private.now c.args.width c.args.height c.args.rate in
-    λ t. c.in_ok-put_both.ensures.put t ∙ ap (λ (x : List ℕ). x ++ (c.deref.result.now ++ c.deref-2.result.now)) (c.requires.empty t) ∙ bytes
+    λ t. c.in_ok-put_both.ensures.put t ∙ held_then c.args.private.now c.args.width c.args.height c.args.rate _ _ _ (c.requires.empty t) (c.deref.ensures.value ∙ c.in_ok-preamble.ensures) (c.deref-2.ensures.value ∙ c.in_ok-lead.ensures)
