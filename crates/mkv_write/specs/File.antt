@@ -50,7 +50,7 @@ lead private width height = info ++ element 4 TRACKS 4 (element 1 TRACK_ENTRY 4 
 unfoldable pub head : (private : List ℕ) (width height : ℕ) → List ℕ
 head private width height = ebml_header ++ segment_head ++ lead private width height
 
--- A SimpleBlock of track 1: the time after its Cluster's in 2 octets, the flags of a key frame, and the packet (RFC 9559 sections 5.1.3.4 and 10.2).
+-- A SimpleBlock: the number of track 1 (129, by RFC 8794 section 4), the time after its Cluster's in 2 octets, the flags of a key frame (128), and the packet (RFC 9559 sections 5.1.3.4 and 10.2).
 unfoldable pub simple_block : (time : ℕ) (packet : List ℕ) → List ℕ
 simple_block time packet = element 1 SIMPLE_BLOCK 8 (129 ∷ bytes_high_first 2 time ++ 128 ∷ packet)
 

@@ -21,6 +21,12 @@ pub const CLUSTER_FRAMES: u32 = 25;
 /// What stands before the packet in a block: its number of bytes.
 const BLOCK_HEAD: usize = 13;
 
+/// The number of the one track, 1, as it stands in a block (RFC 8794 section 4).
+const TRACK: u8 = 0x81;
+
+/// The flags of a block: a key frame, without lacing (RFC 9559 section 10.2).
+const KEY_FRAME: u8 = 0x80;
+
 /// The time of a frame in milliseconds, the nearest to its own.
 #[tactic(auto, unfolding(crate::specs::File::frame_time))]
 pub(crate) fn frame_time(rate: u32, frame: u32) -> u64
@@ -65,6 +71,7 @@ pub(crate) fn put_block(out: &mut Vec<u8>, time: u16, packet: &[u8]) -> Result<G
     }
 }
 
+/// The parts of the block. After a refusal some of them may have been appended.
 #[tactic(auto, unfolding(crate::specs::File::simple_block, crate::specs::File::element))]
 fn put_parts(out: &mut Vec<u8>, time: u16, packet: &[u8]) -> Result<Given, AllocError>
     requires { length packet.now ≤ 2 ^ 40 }
@@ -75,7 +82,7 @@ fn put_parts(out: &mut Vec<u8>, time: u16, packet: &[u8]) -> Result<Given, Alloc
     let [high, low] = time.to_be_bytes();
     put_id(out, 1, SIMPLE_BLOCK)?;
     put_size(out, 8, packet.len() as u64 + 4)?;
-    out.extend_from_slice(&[0x81, high, low, 0x80])?;
+    out.extend_from_slice(&[TRACK, high, low, KEY_FRAME])?;
     let before = Snapshot::of(out);
     out.extend_from_slice(packet)?;
     let after = Snapshot::of(out);
@@ -128,7 +135,8 @@ pub(crate) fn put_full_cluster<V: Vault>(
     ensures ok { OnOk result (blocks.new.items ≡ blocks.old.items ++ simple_block block_time packet.now) }
     ensures given { IfOk result (λ given. packet_of given ≡ packet.now) }
     ensures err { OnErr result (blocks.new.items ≡ blocks.old.items) }
-    ensures put { Appends V.tells (V.held vault.old) (V.held vault.new) (cluster_of time (blocks.old.items ++ simple_block block_time packet.now)) result }
+    ensures put { Appends V.tells (V.held vault.old) (V.held vault.new)
+        (cluster_of time (blocks.old.items ++ simple_block block_time packet.now)) result }
     ensures kept { KeepsBegun V.tells V.begun V.file V.faults vault.old vault.new }
     ensures cause { WriteHasCause (V.faults vault.old) (V.faults vault.new) result }
 {

@@ -1,4 +1,4 @@
-//! The writer.
+//! The writer: packets in, a Matroska file out, a Cluster at a time.
 
 ghost use Rattle.std.specs.Prelude.{◌≡◌, ℕ, ◌+◌, ◌%◌, ◌<◌, ◌≤◌, ◌^◌, ◌++◌, ◌∷◌, [], List, length, IsSome, IfOk, OnOk, OnErr};
 ghost use Rattle.tl_ports.specs.Outside.{KeepsBegun};
@@ -21,7 +21,14 @@ use tl_ports::Vault;
 /// What stands before the blocks in a Cluster: its number of bytes.
 const CLUSTER_HEAD: u64 = 22;
 
-/// Writes packets of one track as a Matroska file into the begun file of a vault, a Cluster at a time.
+/// Writes the packets of one FFV1 track as a Matroska file (RFC 9559) into the begun file of a vault.
+///
+/// It streams: it keeps the blocks of the open Cluster and 16 bytes for each full one, and no more. A contract sees it
+/// as a `Writing`: the configuration record, the size of the picture, the rate, and the packets that were given.
+///
+/// Each call answers `Sink` only where the vault's count of faults rose in that call, and `NoMemory` where memory ran
+/// out. What was put is then a prefix of the file, and the file is given up: its caller ends it. Whatever the answer,
+/// the file stays begun, and no other file changes.
 #[derive(Drop)]
 pub struct MkvWriter {
     alloc: Global,
@@ -50,8 +57,8 @@ impl Model for MkvWriter {
 }
 
 impl MkvWriter {
-    /// Starts a file with pictures of this size in pixels, this configuration record (RFC 9043 section 4.2) and this
-    /// many frames a second, and puts all that stands before the first Cluster. After a fault a prefix of that was put.
+    /// Starts a file in the begun one, which is empty, and puts all that stands before its first Cluster. The size of
+    /// the picture is in pixels, `private` is the configuration record (RFC 9043 section 4.2), and the rate is in frames a second.
     pub fn start<V: Vault>(
         alloc: Global,
         vault: &mut V,
@@ -67,7 +74,8 @@ impl MkvWriter {
         requires private { (1 ≤ length private.now) × (length private.now ≤ 65536) }
         requires rate { (1 ≤ rate) × (rate ≤ 240) }
         ensures started { IfOk result (λ writer. writer ≡ nothing_yet private.now width height rate) }
-        ensures put { Puts V.tells (V.held vault.new) (put_of (nothing_yet private.now width height rate)) (file_of (nothing_yet private.now width height rate)) result }
+        ensures put { let w = nothing_yet private.now width height rate in
+            Puts V.tells (V.held vault.new) (put_of w) (file_of w) result }
         ensures kept { KeepsBegun V.tells V.begun V.file V.faults vault.old vault.new }
         ensures cause { WriteHasCause (V.faults vault.old) (V.faults vault.new) result }
     {
@@ -86,8 +94,8 @@ impl MkvWriter {
         })
     }
 
-    /// Adds the packet of the next frame. With the last packet of a Cluster, that Cluster is put. After a fault a prefix
-    /// of the file over the packets and this one was put, and the writer is as before.
+    /// Adds the packet of the next frame. A Cluster is put when its last packet, the 25th, comes. After a fault a prefix
+    /// of the file over the earlier packets and this one was put, and the writer is as before.
     pub fn frame<V: Vault>(&mut self, vault: &mut V, packet: &[u8]) -> Result<(), WriteFault>
         requires begun { IsSome (V.begun vault.old) }
         requires held { V.tells → V.held vault.old ≡ put_of self.old }
@@ -95,7 +103,8 @@ impl MkvWriter {
         requires size { length packet.now ≤ 2 ^ 40 }
         ensures added { OnOk result (self.new ≡ with_packet self.old packet.now) }
         ensures same { OnErr result (self.new ≡ self.old) }
-        ensures put { Puts V.tells (V.held vault.new) (put_of (with_packet self.old packet.now)) (file_of (with_packet self.old packet.now)) result }
+        ensures put { let w = with_packet self.old packet.now in
+            Puts V.tells (V.held vault.new) (put_of w) (file_of w) result }
         ensures kept { KeepsBegun V.tells V.begun V.file V.faults vault.old vault.new }
         ensures cause { WriteHasCause (V.faults vault.old) (V.faults vault.new) result }
     {
@@ -112,7 +121,7 @@ impl MkvWriter {
     fn gather(&mut self, packet: &[u8]) -> Result<(), AllocError>
         requires frames { length self.old.packets < 1000000 }
         requires size { length packet.now ≤ 2 ^ 40 }
-        requires open { length self.old.packets % CLUSTER_FRAMES < 24 }
+        requires early { length self.old.packets % CLUSTER_FRAMES + 1 < CLUSTER_FRAMES }
         ensures added { OnOk result (self.new ≡ with_packet self.old packet.now) }
         ensures same { OnErr result (self.new ≡ self.old) }
     {
@@ -130,10 +139,11 @@ impl MkvWriter {
         requires held { V.tells → V.held vault.old ≡ put_of self.old }
         requires frames { length self.old.packets < 1000000 }
         requires size { length packet.now ≤ 2 ^ 40 }
-        requires last { length self.old.packets % CLUSTER_FRAMES ≡ 24 }
+        requires last { length self.old.packets % CLUSTER_FRAMES + 1 ≡ CLUSTER_FRAMES }
         ensures added { OnOk result (self.new ≡ with_packet self.old packet.now) }
         ensures same { OnErr result (self.new ≡ self.old) }
-        ensures put { Puts V.tells (V.held vault.new) (put_of (with_packet self.old packet.now)) (file_of (with_packet self.old packet.now)) result }
+        ensures put { let w = with_packet self.old packet.now in
+            Puts V.tells (V.held vault.new) (put_of w) (file_of w) result }
         ensures kept { KeepsBegun V.tells V.begun V.file V.faults vault.old vault.new }
         ensures cause { WriteHasCause (V.faults vault.old) (V.faults vault.new) result }
     {
@@ -160,8 +170,7 @@ impl MkvWriter {
         Ok(())
     }
 
-    /// Puts the rest of the file: the Cluster that isn't full, and the Cues. Answers how many frames there are. After a
-    /// fault a prefix of the file was put.
+    /// Puts the rest of the file, the Cluster that isn't full and the Cues, and answers how many frames it has.
     pub fn finish<V: Vault>(self, vault: &mut V) -> Result<u32, WriteFault>
         requires begun { IsSome (V.begun vault.old) }
         requires held { V.tells → V.held vault.old ≡ put_of self }
@@ -183,8 +192,12 @@ impl MkvWriter {
     fn put_last<V: Vault>(self, vault: &mut V) -> Result<Vec<Cue>, WriteFault>
         requires begun { IsSome (V.begun vault.old) }
         requires held { V.tells → V.held vault.old ≡ put_of self }
-        ensures cues { IfOk result (λ cues. points_of cues.items ≡ cue_points (lead_length self) self.rate self.packets (cluster_count (length self.packets))) }
-        ensures put { Puts V.tells (V.held vault.new) (head self.private self.width self.height ++ clusters self.rate self.packets (cluster_count (length self.packets))) (file_of self) result }
+        ensures cues { IfOk result (λ cues. points_of cues.items
+            ≡ cue_points (lead_length self) self.rate self.packets (cluster_count (length self.packets))) }
+        ensures put { Puts V.tells (V.held vault.new)
+            (head self.private self.width self.height
+            ++ clusters self.rate self.packets (cluster_count (length self.packets)))
+            (file_of self) result }
         ensures kept { KeepsBegun V.tells V.begun V.file V.faults vault.old vault.new }
         ensures cause { WriteHasCause (V.faults vault.old) (V.faults vault.new) result }
     {

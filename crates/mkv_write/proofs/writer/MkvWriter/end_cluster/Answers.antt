@@ -14,13 +14,14 @@ use Rattle.mkv_write.proofs.writer.MkvWriter.end_cluster.Goals as goal
 -- what is held after the Cluster
 held_then : (inside : Inside) (w : Writing) (time block : ℕ) (held packet : List ℕ) → writing_of inside.history inside.rate ≡ w
     → Keeps (writing_of inside.history inside.rate) inside.frames inside.place inside.gathered.items inside.cues.items
-    → length w.packets % 25 ≡ 24 → time ≡ frame_time inside.rate (25 * (inside.frames / 25))
+    → length w.packets % 25 + 1 ≡ 25 → time ≡ frame_time inside.rate (25 * (inside.frames / 25))
     → block ≡ frame_time inside.rate inside.frames - frame_time inside.rate (25 * (inside.frames / 25)) → held ≡ put_of w
     → held ++ cluster_of time (inside.gathered.items ++ simple_block block packet) ≡ put_of (with_packet w packet)
 held_then inside w time block held packet view keeps last time-is block-is held-is =
     let v : Writing = writing_of inside.history inside.rate in
     let piece : List ℕ = cluster_of time (inside.gathered.items ++ simple_block block packet) in
-    let last_v : length v.packets % 25 ≡ 24 = ap (λ (x : Writing). length x.packets % 25) view ∙ last in
+    let same : length v.packets ≡ length w.packets = ap (λ (x : Writing). length x.packets) view in
+    let last_v : length v.packets % 25 ≡ 24 = omega arith in
     let all = put_of-ended v inside.frames inside.place inside.gathered.items inside.cues.items packet time block keeps last_v time-is block-is in
     ap (λ (x : List ℕ). x ++ piece) held-is ∙ subst (λ (x : Writing). put_of x ++ piece ≡ put_of (with_packet x packet)) view all
 
@@ -44,7 +45,7 @@ invariant_of-self-2 g c =
     let v : Writing = writing_of inside.history inside.rate in
     let packet : List ℕ = c.args.packet.now in
     let view : length v.packets ≡ length c.args.self.now.packets = ap (λ (x : Writing). length x.packets) c.self.view_is in
-    let last : length v.packets % 25 ≡ 24 = ap (λ (k : ℕ). k % 25) view ∙ c.requires.last in
+    let last : length v.packets % 25 ≡ 24 = omega (arith, c.requires.last) in
     let frames_are : inside.frames ≡ length v.packets = c.self.invariant.frames_are in
     let added = packets-push inside.history.packets.items c.push_reserved-2.new.self.items c.in_ok-given.given packet (c.push_reserved-2.ensures.items ∙ ap (λ (x : List _). x ++ c.in_ok-given.given ∷ []) c.in_ok-reserve.ensures.items) c.in_ok-given.ensures.given in
     let before : List ℕ = inside.gathered.items in
