@@ -1,10 +1,10 @@
 -- Clusters, as packets are added.
-use Rattle.std.proofs.Common.{◌≡◌, ℕ, zero, suc, ◌+◌, ◌-◌, ◌*◌, ◌/◌, ◌≤◌, List, [], ◌∷◌, ◌++◌, length, take, drop, refl, sym, ap, ◌∙◌, inl, inr, append_assoc, arith, length-append, length-drop}
+use Rattle.std.proofs.Common.{◌≡◌, ℕ, zero, suc, ◌+◌, ◌-◌, ◌*◌, ◌≤◌, List, [], ◌∷◌, ◌++◌, length, take, drop, refl, sym, ap, ◌∙◌, inl, inr, append_assoc, arith, length-append, length-drop}
 use Rattle.std.proofs.lemmas.Bool.{cases_lt}
-use Rattle.std.proofs.lemmas.List.{append-nil, drop-append-le, drop_all, take-append-le, take_all, length_push}
+use Rattle.std.proofs.lemmas.List.{append-nil, drop-append-le, drop_all, take-append-le, take_all}
 use Rattle.std.specs.Int.{bytes_high_first}
 use Rattle.mkv_elements.specs.declared.TheConstants.{CLUSTER, TIMESTAMP}
-use Rattle.mkv_write.specs.File.{frame_time, size, element, number, simple_block, blocks, cluster_of, cluster, clusters, cluster_place, cue_point, cue_points}
+use Rattle.mkv_write.specs.File.{frame_time, size, element, number, simple_block, blocks, cluster_of, cluster, clusters, cluster_place, cue_points}
 use Rattle.mkv_write.specs.Writing.{IsPrefix}
 use Rattle.mkv_write.proofs.Lengths.{length-element}
 use Rattle.mkv_write.proofs.Octets.{length-bytes_high_first}

@@ -1,7 +1,7 @@
 -- How many bytes elements take.
-use Rattle.std.proofs.Common.{◌≡◌, ℕ, ◌+◌, ◌*◌, ◌^◌, ◌≤◌, List, [], ◌∷◌, ◌++◌, length, codes, refl, arith, length-append}
+use Rattle.std.proofs.Common.{◌≡◌, ℕ, ◌+◌, ◌*◌, ◌^◌, List, ◌∷◌, ◌++◌, length, codes, refl, arith, length-append}
 use Rattle.std.specs.Int.{bytes_high_first}
-use Rattle.mkv_write.specs.File.{size, element, number, simple_block, cluster_of, ebml_header, segment_head, info, video, track, lead}
+use Rattle.mkv_write.specs.File.{size, element, number, simple_block, cluster_of, info, video, track, lead}
 use Rattle.mkv_elements.specs.declared.TheConstants.{CLUSTER, TIMESTAMP, TRACKS, TRACK_ENTRY, CODEC_PRIVATE, CODEC_ID, TRACK_NUMBER, TRACK_UID, TRACK_TYPE, FLAG_LACING}
 use Rattle.mkv_write.proofs.Octets.{length-bytes_high_first}
 

@@ -3,7 +3,7 @@ use Rattle.std.specs.Prelude.{◌≡◌, ℕ, ◌+◌, ◌*◌, ◌/◌, ◌^◌
 use Rattle.std.specs.List.{flat_map}
 use Rattle.mkv_write.specs.declared.cluster.TheConstants.{CLUSTER_FRAMES}
 use Rattle.mkv_write.specs.declared.cue.Cue.{Cue}
-use Rattle.mkv_write.specs.File.{frame_time, lead, blocks, clusters, cluster_place, cue_point, cue_points}
+use Rattle.mkv_write.specs.File.{frame_time, lead, blocks, cluster_place, cue_point, cue_points}
 use Rattle.mkv_write.specs.Writing.{Writing}
 
 -- How many Clusters are full.

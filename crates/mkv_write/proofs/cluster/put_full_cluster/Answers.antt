@@ -1,4 +1,4 @@
-use Rattle.std.proofs.Common.{◌≡◌, ◌++◌, ◌+◌, length, ap, ◌∙◌, arith, length-append}
+use Rattle.std.proofs.Common.{◌≡◌, ◌++◌, length, ap, ◌∙◌, arith, length-append}
 use Rattle.mkv_write.specs.File.{simple_block}
 use Rattle.mkv_write.proofs.Lengths.{length-simple_block}
 use Rattle.mkv_write.proofs.cluster.put_full_cluster.Goals as goal

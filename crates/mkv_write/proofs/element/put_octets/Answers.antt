@@ -1,5 +1,4 @@
-use Rattle.std.proofs.Common.{◌≡◌, ◌++◌, ◌-◌, List, ℕ, ap, ◌∙◌, take, drop}
-use Rattle.std.specs.Int.{bytes_high_first}
+use Rattle.std.proofs.Common.{◌++◌, List, ℕ, ap, ◌∙◌}
 use Rattle.mkv_write.proofs.Octets.{range-bytes_high_first}
 use Rattle.mkv_write.proofs.element.put_octets.Goals as goal
 

@@ -1,5 +1,4 @@
 use Rattle.std.proofs.Common.{◌≡◌, ℕ, ◌+◌, ◌-◌, ◌*◌, ◌/◌, ◌%◌, ◌<◌, ◌++◌, ◌∷◌, [], List, length, map, sym, ap, ◌∙◌, subst, arith}
-use Rattle.std.specs.List.{flat_map}
 use Rattle.mkv_write.specs.declared.cue.Cue.{Cue}
 use Rattle.mkv_write.specs.declared.writer.MkvWriter.TheInside.{Inside}
 use Rattle.mkv_write.specs.File.{cue_point, cluster_of, simple_block, frame_time}

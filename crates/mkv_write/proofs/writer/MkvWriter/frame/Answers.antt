@@ -1,4 +1,4 @@
-use Rattle.std.proofs.Common.{◌≡◌, ℕ, ◌%◌, ◌<◌, List, length, ap, ◌∙◌, arith}
+use Rattle.std.proofs.Common.{◌≡◌, ◌%◌, ◌<◌, length, ap, ◌∙◌, arith}
 use Rattle.mkv_write.specs.History.{writing_of}
 use Rattle.mkv_write.specs.Writing.{Writing}
 use Rattle.mkv_write.proofs.Files.{puts_err, unput}

@@ -1,5 +1,5 @@
-use Rattle.std.proofs.Common.{◌≡◌, ℕ, ◌+◌, ◌<◌, ◌%◌, ◌++◌, ◌∷◌, [], List, length, map, sym, ap, ◌∙◌, subst, arith}
-use Rattle.mkv_write.specs.History.{packet_of, writing_of}
+use Rattle.std.proofs.Common.{◌≡◌, ℕ, ◌+◌, ◌<◌, ◌%◌, ◌++◌, ◌∷◌, [], List, length, sym, ap, ◌∙◌, subst, arith}
+use Rattle.mkv_write.specs.History.{writing_of}
 use Rattle.mkv_write.specs.Keeping.{Keeps}
 use Rattle.mkv_write.specs.Writing.{Writing}
 use Rattle.mkv_write.proofs.Kept.{keeps_gathered, packets-push}

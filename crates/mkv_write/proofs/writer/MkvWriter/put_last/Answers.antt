@@ -1,4 +1,4 @@
-use Rattle.std.proofs.Common.{◌≡◌, ◌≢◌, ℕ, ◌%◌, ◌*◌, ◌/◌, ◌++◌, ◌∷◌, [], List, length, sym, ap, ◌∙◌, subst}
+use Rattle.std.proofs.Common.{◌≡◌, ◌≢◌, ℕ, ◌%◌, ◌*◌, ◌/◌, ◌++◌, List, length, sym, ap, ◌∙◌, subst}
 use Rattle.mkv_write.specs.declared.cue.Cue.{Cue}
 use Rattle.mkv_write.specs.declared.writer.MkvWriter.TheInside.{Inside}
 use Rattle.mkv_write.specs.File.{frame_time, head, clusters, cluster_count, cluster_of, cue_points}

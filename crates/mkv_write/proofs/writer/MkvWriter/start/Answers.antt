@@ -1,7 +1,6 @@
 use Rattle.std.proofs.Common.{◌≡◌, ℕ, ◌++◌, [], List, length, map, sym, ap, ◌∙◌, subst, arith}
 use Rattle.mkv_write.specs.File.{ebml_header, segment_head, lead}
 use Rattle.mkv_write.specs.History.{packet_of, writing_of}
-use Rattle.mkv_write.specs.Keeping.{Keeps}
 use Rattle.mkv_write.specs.Writing.{Writing, nothing_yet, put_of, file_of, IsPrefix}
 use Rattle.mkv_write.proofs.Files.{put_of-nothing, put_of-prefix_now, puts_err}
 use Rattle.mkv_write.proofs.Kept.{keeps_nothing}
