@@ -52,7 +52,8 @@ impl FileList {
 
     /// Takes the file of a name away, where there is one.
     fn forget(&mut self, name: &[u8])
-        ensures others { (other : List ℕ) → other ≢ name.now → file_in self.new.files.items other ≡ file_in self.old.files.items other }
+        ensures others { (other : List ℕ) → other ≢ name.now → file_in self.new.files.items other
+            ≡ file_in self.old.files.items other }
         ensures len { vec_len self.new.files ≤ vec_len self.old.files }
         ensures capacity { vec_capacity self.new.files ≡ vec_capacity self.old.files }
     {
@@ -64,7 +65,8 @@ impl FileList {
     /// Puts a file under its name, as the latest, in the place of one that is there.
     pub(crate) fn put(&mut self, name: &[u8], bytes: Vec<u8>) -> Result<(), AllocError>
         ensures file { OnOk result (file_in self.new.files.items name.now ≡ Some bytes.items) }
-        ensures others { (other : List ℕ) → other ≢ name.now → file_in self.new.files.items other ≡ file_in self.old.files.items other }
+        ensures others { (other : List ℕ) → other ≢ name.now → file_in self.new.files.items other
+            ≡ file_in self.old.files.items other }
         ensures latest { OnOk result (latest_name self.new.files.items ≡ Some name.now) }
         ensures held { OnOk result (latest_bytes self.new.files.items ≡ bytes.items) }
         ensures err { OnErr result (self.new.files.items ≡ self.old.files.items) }

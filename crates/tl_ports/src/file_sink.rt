@@ -18,6 +18,7 @@ pub struct FileSink<'a, R: Files> {
 }
 
 impl<'a, R: Files> FileSink<'a, R> {
+    /// A sink whose file isn't opened yet.
     pub fn start(rt: &'a R, name: String) -> FileSink<'a, R>
         ensures { ⟦<FileSink<'a, R> as Sink>⟧.faults result ≡ 0 }
     {
@@ -37,6 +38,7 @@ impl<R: Files> Sink for FileSink<'_, R> {
 
     ghost faults = { λ sink. sink.faults };
 
+    /// `Failed` where the file can't be opened, at an error of a write, and where a write takes none of the bytes.
     fn put(&mut self, bytes: &[u8]) -> Result<(), PutFault> {
         match put_into(self.rt, self.name.as_str(), &mut self.file, bytes) {
             Ok(()) => Ok(()),

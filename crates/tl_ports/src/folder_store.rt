@@ -2,7 +2,7 @@
 
 ghost use Rattle.std.specs.Prelude.{◌≡◌, ℕ, ◌+◌, ◌≤◌, None, IfErr, OnOk, vec_len};
 ghost use Rattle.std.specs.Io.{StartsWith};
-ghost use Rattle.tl_ports.specs.Stream.{NamesLimit};
+ghost use Rattle.tl_ports.specs.Stream.{IsOver};
 
 use crate::fault::FetchFault;
 use crate::ports::Store;
@@ -21,6 +21,7 @@ pub struct FolderStore<'a, R: Files> {
 }
 
 impl<'a, R: Files> FolderStore<'a, R> {
+    /// A store with no faults yet.
     pub fn start(rt: &'a R) -> FolderStore<'a, R>
         ensures { ⟦<FolderStore<'a, R> as Store>⟧.faults result ≡ 0 }
     {
@@ -35,10 +36,16 @@ impl<R: Files> Store for FolderStore<'_, R> {
 
     ghost faults = { λ store. store.faults };
 
+    /// `Missing` where the system knows no such file, `TooLarge` where it has more than `limit` bytes, `NoMemory` where
+    /// there is no room for it, and `Failed` at any other error, as at a folder.
     fn fetch(&mut self, name: &str, limit: u64, into: &mut Vec<u8>) -> Result<(), FetchFault> {
         let before = into.len();
         match read_file(self.rt, name, limit, into) {
             Ok(()) => Ok(()),
+            Err(FetchFault::NoMemory) => {
+                into.truncate(before);
+                Err(FetchFault::NoMemory)
+            }
             Err(fault) => {
                 into.truncate(before);
                 self.faults = self.faults.saturating_add(1);
@@ -52,7 +59,7 @@ impl<R: Files> Store for FolderStore<'_, R> {
 fn read_file<R: Files>(rt: &R, name: &str, limit: u64, into: &mut Vec<u8>) -> Result<(), FetchFault>
     ensures front { StartsWith into.new.items into.old.items }
     ensures within { OnOk result (vec_len into.new ≤ vec_len into.old + limit) }
-    ensures told { IfErr result (NamesLimit limit) }
+    ensures over { IfErr result (IsOver limit None) }
 {
     let mut file = match fs::open(rt, name) {
         Ok(file) => file,
@@ -78,7 +85,7 @@ fn read_file<R: Files>(rt: &R, name: &str, limit: u64, into: &mut Vec<u8>) -> Re
 }
 
 fn fault_of(kind: ErrorKind) -> FetchFault
-    ensures { (limit : ℕ) → NamesLimit limit result }
+    ensures { (limit : ℕ) → IsOver limit None result }
 {
     match kind {
         ErrorKind::NotFound => FetchFault::Missing,

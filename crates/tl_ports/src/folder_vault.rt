@@ -29,6 +29,7 @@ struct Begun<F> {
 }
 
 impl<'a, R: Files + AllocGlobal> FolderVault<'a, R> {
+    /// A vault with no file begun, and no faults yet.
     pub fn start(rt: &'a R) -> FolderVault<'a, R>
         ensures begun { ⟦<FolderVault<'a, R> as Vault>⟧.begun result ≡ None }
         ensures faults { ⟦<FolderVault<'a, R> as Vault>⟧.faults result ≡ 0 }
@@ -40,6 +41,7 @@ impl<'a, R: Files + AllocGlobal> FolderVault<'a, R> {
         }
     }
 
+    /// Counts a fault.
     fn fail(&mut self) -> PutFault
         ensures fault { result ≡ PutFault.Failed }
         ensures rose { Rose self.old.faults self.new.faults }
@@ -64,7 +66,7 @@ impl<R: Files + AllocGlobal> Vault for FolderVault<'_, R> {
 
     ghost held_is = { λ told vault name begun. absurd told };
 
-    /// Creates the file, or empties one that is there.
+    /// Creates the file, or empties one that is there. `Failed` where the system does neither.
     fn begin(&mut self, name: &str) -> Result<(), PutFault> {
         let Ok(name_copy) = Vec::from_slice(self.rt.alloc(), name.as_bytes()) else {
             return Err(PutFault::NoMemory);
@@ -81,6 +83,7 @@ impl<R: Files + AllocGlobal> Vault for FolderVault<'_, R> {
         }
     }
 
+    /// Writes all of the bytes. `Failed` at an error, and where a write takes none of them.
     fn append(&mut self, bytes: &[u8]) -> Result<(), PutFault> {
         let Some(mut begun) = self.begun.take() else {
             unreachable!()
@@ -93,7 +96,7 @@ impl<R: Files + AllocGlobal> Vault for FolderVault<'_, R> {
         }
     }
 
-    /// Closes the file, once its bytes are on the disk.
+    /// Closes the file, once its bytes are on the disk. `Failed` where they don't get there.
     fn end(&mut self) -> Result<(), PutFault> {
         let Some(mut begun) = self.begun.take() else {
             unreachable!()

@@ -45,12 +45,14 @@ impl Sink for MemSink {
 
     ghost faults = { λ sink. sink.plan.faults };
 
-    /// Fails exactly where its number is in the list, and adds the first half of the piece then.
+    /// Where its number is in the list it adds the first half of the piece and answers `Failed`.
     fn put(&mut self, bytes: &[u8]) -> Result<(), PutFault>
-        ensures added { Adds (⟦<MemSink as Sink>⟧.contents self.old) (⟦<MemSink as Sink>⟧.contents self.new) bytes.now result }
+        ensures added { Adds (⟦<MemSink as Sink>⟧.contents self.old)
+            (⟦<MemSink as Sink>⟧.contents self.new) bytes.now result }
         ensures later { ⟦<MemSink as Sink>⟧.faults self.old ≤ ⟦<MemSink as Sink>⟧.faults self.new }
         ensures cause { PutHasCause (⟦<MemSink as Sink>⟧.faults self.old) (⟦<MemSink as Sink>⟧.faults self.new) result }
-        ensures puts { PutsByPlan (FailsNext self.old.plan) (⟦<MemSink as Sink>⟧.contents self.old) (⟦<MemSink as Sink>⟧.contents self.new) bytes.now result }
+        ensures puts { PutsByPlan (FailsNext self.old.plan) (⟦<MemSink as Sink>⟧.contents self.old)
+            (⟦<MemSink as Sink>⟧.contents self.new) bytes.now result }
         ensures counted { CountsCall self.old.plan self.new.plan }
     {
         self.plan.put(bytes, &mut self.bytes)?;

@@ -35,8 +35,10 @@ impl MemStore {
     /// Puts a file under its name, in the place of one that is there. After a refusal the files are as before.
     pub fn add(&mut self, name: &str, bytes: Vec<u8>) -> Result<(), AllocError>
         ensures file { OnOk result (⟦<MemStore as Store>⟧.file self.new name.now ≡ Some bytes.items) }
-        ensures others { (other : List ℕ) → other ≢ name.now → ⟦<MemStore as Store>⟧.file self.new other ≡ ⟦<MemStore as Store>⟧.file self.old other }
-        ensures err { OnErr result ((other : List ℕ) → ⟦<MemStore as Store>⟧.file self.new other ≡ ⟦<MemStore as Store>⟧.file self.old other) }
+        ensures others { (other : List ℕ) → other ≢ name.now → ⟦<MemStore as Store>⟧.file self.new other
+            ≡ ⟦<MemStore as Store>⟧.file self.old other }
+        ensures err { OnErr result
+            ((other : List ℕ) → ⟦<MemStore as Store>⟧.file self.new other ≡ ⟦<MemStore as Store>⟧.file self.old other) }
         ensures plan { self.new.plan ≡ self.old.plan }
         ensures faults { ⟦<MemStore as Store>⟧.faults self.new ≡ ⟦<MemStore as Store>⟧.faults self.old }
     {
@@ -52,10 +54,13 @@ impl Store for MemStore {
 
     ghost faults = { λ store. store.plan.faults };
 
-    /// Fails exactly where its number is in the list.
+    /// Answers `Failed` exactly where its number is in the list.
     fn fetch(&mut self, name: &str, limit: u64, into: &mut Vec<u8>) -> Result<(), FetchFault>
-        ensures fetched { Fetches (Unit {0}) (⟦<MemStore as Store>⟧.file self.old name.now) limit into.old.items into.new.items (Rose (⟦<MemStore as Store>⟧.faults self.old) (⟦<MemStore as Store>⟧.faults self.new)) result }
-        ensures files { (other : List ℕ) → ⟦<MemStore as Store>⟧.file self.new other ≡ ⟦<MemStore as Store>⟧.file self.old other }
+        ensures fetched { Fetches (Unit {0})
+            (⟦<MemStore as Store>⟧.file self.old name.now) limit into.old.items into.new.items
+            (Rose (⟦<MemStore as Store>⟧.faults self.old) (⟦<MemStore as Store>⟧.faults self.new)) result }
+        ensures files { (other : List ℕ) → ⟦<MemStore as Store>⟧.file self.new other
+            ≡ ⟦<MemStore as Store>⟧.file self.old other }
         ensures later { ⟦<MemStore as Store>⟧.faults self.old ≤ ⟦<MemStore as Store>⟧.faults self.new }
         ensures fails { IsErrOf result FetchFault.Failed ↔ FailsNext self.old.plan }
         ensures counted { CountsCall self.old.plan self.new.plan }

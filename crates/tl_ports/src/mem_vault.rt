@@ -58,14 +58,18 @@ impl Vault for MemVault {
 
     ghost held_is = { λ told vault name begun. file_in-latest vault.is_open vault.files.files.items name begun };
 
-    /// Fails exactly where its number is in the list. After any refusal the file is as before.
+    /// Answers `Failed` exactly where its number is in the list. After any refusal the file is as before.
     fn begin(&mut self, name: &str) -> Result<(), PutFault>
         requires { ⟦<MemVault as Vault>⟧.begun self.old ≡ None }
-        ensures begun { Begins (Unit {0}) name.now (⟦<MemVault as Vault>⟧.begun self.new) (⟦<MemVault as Vault>⟧.file self.old name.now) (⟦<MemVault as Vault>⟧.file self.new name.now) result }
-        ensures others { KeepsOthers (Unit {0}) name.now (⟦<MemVault as Vault>⟧.file self.old) (⟦<MemVault as Vault>⟧.file self.new) }
+        ensures begun { Begins (Unit {0}) name.now (⟦<MemVault as Vault>⟧.begun self.new)
+            (⟦<MemVault as Vault>⟧.file self.old name.now)
+            (⟦<MemVault as Vault>⟧.file self.new name.now) result }
+        ensures others { KeepsOthers (Unit {0}) name.now (⟦<MemVault as Vault>⟧.file self.old)
+            (⟦<MemVault as Vault>⟧.file self.new) }
         ensures later { ⟦<MemVault as Vault>⟧.faults self.old ≤ ⟦<MemVault as Vault>⟧.faults self.new }
         ensures cause { PutHasCause (⟦<MemVault as Vault>⟧.faults self.old) (⟦<MemVault as Vault>⟧.faults self.new) result }
-        ensures kept { OnErr result (⟦<MemVault as Vault>⟧.file self.new name.now ≡ ⟦<MemVault as Vault>⟧.file self.old name.now) }
+        ensures kept { OnErr result
+            (⟦<MemVault as Vault>⟧.file self.new name.now ≡ ⟦<MemVault as Vault>⟧.file self.old name.now) }
         ensures fails { IsErrOf result PutFault.Failed ↔ FailsNext self.old.plan }
         ensures counted { CountsCall self.old.plan self.new.plan }
     {
@@ -82,13 +86,15 @@ impl Vault for MemVault {
         }
     }
 
-    /// Fails exactly where its number is in the list, and adds the first half of the piece then.
+    /// Where its number is in the list it adds the first half of the piece and answers `Failed`.
     fn append(&mut self, bytes: &[u8]) -> Result<(), PutFault>
         requires { IsSome (⟦<MemVault as Vault>⟧.begun self.old) }
         ensures added { Adds (⟦<MemVault as Vault>⟧.held self.old) (⟦<MemVault as Vault>⟧.held self.new) bytes.now result }
-        ensures kept { KeepsBegun (Unit {0}) ⟦<MemVault as Vault>⟧.begun ⟦<MemVault as Vault>⟧.file ⟦<MemVault as Vault>⟧.faults self.old self.new }
+        ensures kept { KeepsBegun (Unit {0}) ⟦<MemVault as Vault>⟧.begun ⟦<MemVault as Vault>⟧.file
+            ⟦<MemVault as Vault>⟧.faults self.old self.new }
         ensures cause { PutHasCause (⟦<MemVault as Vault>⟧.faults self.old) (⟦<MemVault as Vault>⟧.faults self.new) result }
-        ensures puts { PutsByPlan (FailsNext self.old.plan) (⟦<MemVault as Vault>⟧.held self.old) (⟦<MemVault as Vault>⟧.held self.new) bytes.now result }
+        ensures puts { PutsByPlan (FailsNext self.old.plan) (⟦<MemVault as Vault>⟧.held self.old)
+            (⟦<MemVault as Vault>⟧.held self.new) bytes.now result }
         ensures counted { CountsCall self.old.plan self.new.plan }
     {
         let latest = &mut self.files.files[0];
@@ -96,14 +102,16 @@ impl Vault for MemVault {
         Ok(())
     }
 
-    /// Fails exactly where its number is in the list.
+    /// Answers `Failed` exactly where its number is in the list. The file is ended then too.
     fn end(&mut self) -> Result<(), PutFault>
         requires { IsSome (⟦<MemVault as Vault>⟧.begun self.old) }
         ensures begun { ⟦<MemVault as Vault>⟧.begun self.new ≡ None }
-        ensures files { (name : List ℕ) → ⟦<MemVault as Vault>⟧.file self.new name ≡ ⟦<MemVault as Vault>⟧.file self.old name }
+        ensures files { (name : List ℕ) → ⟦<MemVault as Vault>⟧.file self.new name
+            ≡ ⟦<MemVault as Vault>⟧.file self.old name }
         ensures later { ⟦<MemVault as Vault>⟧.faults self.old ≤ ⟦<MemVault as Vault>⟧.faults self.new }
         ensures cause { PutHasCause (⟦<MemVault as Vault>⟧.faults self.old) (⟦<MemVault as Vault>⟧.faults self.new) result }
-        ensures fails { MatchResult result (λ done. FailsNext self.old.plan → ⊥) (λ fault. (fault ≡ PutFault.Failed) × FailsNext self.old.plan) }
+        ensures fails { MatchResult result (λ done. FailsNext self.old.plan → ⊥)
+            (λ fault. (fault ≡ PutFault.Failed) × FailsNext self.old.plan) }
         ensures counted { CountsCall self.old.plan self.new.plan }
     {
         self.is_open = false;

@@ -15,6 +15,7 @@ pub struct OutSink<'a, R: Print> {
 }
 
 impl<'a, R: Print> OutSink<'a, R> {
+    /// A sink with no faults yet.
     pub fn start(rt: &'a R) -> OutSink<'a, R>
         ensures { ⟦<OutSink<'a, R> as Sink>⟧.faults result ≡ 0 }
     {
@@ -29,6 +30,7 @@ impl<R: Print> Sink for OutSink<'_, R> {
 
     ghost faults = { λ sink. sink.faults };
 
+    /// `Failed` at an error of a write, and where a write takes none of the bytes.
     fn put(&mut self, bytes: &[u8]) -> Result<(), PutFault> {
         match write_whole(&mut io::writer(self.rt), bytes) {
             Ok(()) => Ok(()),

@@ -1,9 +1,10 @@
 //! Whole files in and whole pieces out, by single reads and writes.
 //! A call that a signal interrupts is made again, and isn't a fault.
 
-ghost use Rattle.std.specs.Prelude.{◌≡◌, ◌+◌, ◌-◌, ◌^◌, ◌<◌, ◌≤◌, length, take, ℕ, IfOk, IfErr, OnOk, IsOkUnless, vec_len};
-ghost use Rattle.tl_ports.specs.Stream.{NamesLimit};
+ghost use Rattle.std.specs.Prelude.{◌≡◌, ◌+◌, ◌-◌, ◌^◌, ◌<◌, ◌≤◌, length, take, drop, ◌++◌, ℕ, IfSome, IfOk, IfErr, OnOk, IsOkUnless, vec_len};
+ghost use Rattle.tl_ports.specs.Stream.{Writes, IsReadFault, IsOver};
 ghost use Rattle.std.specs.Io.{ReadsAtMost, StartsWith};
+ghost use Rattle.std.specs.Io.KnownBytes.{Consumes, IsAtEnd};
 
 use crate::fault::{FetchFault, PutFault};
 use std::io::{Error, ErrorKind, Read, Write};
@@ -16,7 +17,9 @@ fn is_interrupted(error: &Error) -> bool {
 }
 
 /// Writes all of the bytes. A write that takes none of them is a fault.
-pub(crate) fn write_whole<W: Write>(to: &mut W, bytes: &[u8]) -> Result<(), PutFault> {
+pub(crate) fn write_whole<W: Write>(to: &mut W, bytes: &[u8]) -> Result<(), PutFault>
+    ensures { Writes (W.contents to.old) (W.contents to.new) bytes.now result }
+{
     let mut rest = bytes;
     for _ in 0..u64::MAX {
         if rest.is_empty() {
@@ -37,6 +40,8 @@ pub(crate) fn write_whole<W: Write>(to: &mut W, bytes: &[u8]) -> Result<(), PutF
 
 fn read_once<R: Read>(file: &mut R, buffer: &mut [u8]) -> Result<usize, FetchFault>
     ensures bound { ReadsAtMost result buffer.new }
+    ensures bytes { IfOk result (λ count. Consumes (R.remaining file.old) (R.remaining file.new) (take count buffer.new)) }
+    ensures end { IfOk result (λ count. count ≡ 0 → 0 < length buffer.old → IsAtEnd (R.remaining file.new)) }
     ensures fails { IsOkUnless result FetchFault.Failed }
 {
     for _ in 0..u64::MAX {
@@ -56,6 +61,8 @@ fn read_at<R: Read>(file: &mut R, buffer: &mut [u8], at: usize) -> Result<usize,
     requires { at < length buffer.old }
     ensures front { take at buffer.new ≡ take at buffer.old }
     ensures fits { IfOk result (λ count. at + count ≤ length buffer.new) }
+    ensures bytes { IfOk result (λ count. Consumes (R.remaining file.old) (R.remaining file.new) (take count (drop at buffer.new))) }
+    ensures end { IfOk result (λ count. count ≡ 0 → IsAtEnd (R.remaining file.new)) }
     ensures fails { IsOkUnless result FetchFault.Failed }
 {
     read_once(file, &mut buffer[at..])
@@ -86,7 +93,9 @@ fn read_piece<R: Read>(file: &mut R, most: usize, into: &mut Vec<u8>) -> Result<
     ensures front { StartsWith into.new.items into.old.items }
     ensures len { IfOk result (λ count. vec_len into.new ≡ vec_len into.old + count) }
     ensures within { IfOk result (λ count. count ≤ most) }
-    ensures names { (limit : ℕ) → IfErr result (NamesLimit limit) }
+    ensures bytes { OnOk result (Consumes (R.remaining file.old) (R.remaining file.new) (drop (length into.old.items) into.new.items)) }
+    ensures end { IfOk result (λ count. count ≡ 0 → IsAtEnd (R.remaining file.new)) }
+    ensures fails { IfErr result IsReadFault }
 {
     let len = into.len();
     make_room(most, into)?;
@@ -103,7 +112,8 @@ pub(crate) fn read_whole<R: Read>(
 ) -> Result<(), FetchFault>
     ensures front { StartsWith into.new.items into.old.items }
     ensures within { OnOk result (vec_len into.new ≤ vec_len into.old + limit) }
-    ensures names { IfErr result (NamesLimit limit) }
+    ensures whole { OnOk result (IfSome (R.remaining file.old) (λ text. into.new.items ≡ into.old.items ++ text)) }
+    ensures over { IfErr result (IsOver limit (R.remaining file.old)) }
 {
     let mut left = limit;
     for _ in 0..u64::MAX {

@@ -1,0 +1,5 @@
+pub mod Fault
+pub mod File
+pub mod History
+pub mod Keeping
+pub mod Writing

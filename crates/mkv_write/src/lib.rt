@@ -1,0 +1,18 @@
+//! Writes FFV1 packets as a Matroska file, one Cluster at a time.
+#![tactic(auto)]
+
+mod cluster;
+mod cue;
+mod element;
+mod fault;
+mod head;
+mod history;
+mod put;
+mod writer;
+
+pub use cluster::CLUSTER_FRAMES;
+pub use fault::WriteFault;
+pub use writer::{MkvWriter, put_is_prefix};
+
+#[cfg(test)]
+mod tests;
