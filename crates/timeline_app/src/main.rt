@@ -1,4 +1,7 @@
-//! `timeline`: cuts lossless archive video.
+//! `timeline`: a nonlinear editor for lossless archive video, FFV1 in Matroska.
+//!
+//! So far it plays a script of five lines: one clip, one insert, one export. `run_alone` is the top
+//! call, over traits for the outside; `main` makes the real objects.
 #![tactic(auto)]
 
 mod export;
@@ -11,4 +14,45 @@ mod say;
 mod script;
 mod stop;
 
-fn main() {}
+use run::run_alone;
+use std::process::ExitCode;
+use std::{env, io};
+use tl_ports::{FileSink, FolderStore, FolderVault, OutSink};
+
+#[cfg(test)]
+mod tests;
+
+/// The file that shown frames would go to.
+const SCREEN_FILE: &str = "screen.yuv";
+
+/// The words after the program's name.
+fn words_of(rt: &HostRuntime) -> io::Result<Vec<String>> {
+    let mut words = Vec::new(rt.alloc());
+    for word in env::args(rt)?.skip(1) {
+        words.push(word)?;
+    }
+    Ok(words)
+}
+
+/// Runs over the current folder and standard output.
+fn run_here(rt: &HostRuntime, words: &[String]) -> io::Result<u8> {
+    let alloc = rt.alloc();
+    let mut store = FolderStore::start(rt);
+    let mut vault = FolderVault::start(rt);
+    let mut screen = FileSink::start(rt, String::from_str(alloc, SCREEN_FILE)?);
+    let mut out = OutSink::start(rt);
+    Ok(run_alone(alloc, words, &mut store, &mut vault, &mut screen, &mut out).status)
+}
+
+/// Words that can't be read are wrong words.
+fn run_words(rt: &HostRuntime) -> io::Result<u8> {
+    match words_of(rt) {
+        Ok(words) => run_here(rt, &words),
+        Err(error) if error.kind() == io::ErrorKind::OutOfMemory => Err(error),
+        Err(_) => run_here(rt, &[]),
+    }
+}
+
+fn main(rt: HostRuntime) -> ExitCode {
+    ExitCode::from(run_words(&rt).unwrap_or(5))
+}

@@ -1,0 +1,241 @@
+//! The program over objects in memory.
+
+use crate::run::run_alone;
+use std::alloc::{AllocError, Global};
+use std::test::Fail;
+use tl_ports::{MemSink, MemStore, MemVault};
+
+/// The packet of a picture of 2x2 samples.
+const PACKET: [u8; 5] = [0xFF, 0xFF, 0x00, 0x00, 0x02];
+
+/// A configuration record; it isn't examined yet.
+const RECORD: [u8; 7] = [1, 2, 3, 4, 5, 6, 7];
+
+/// Appends an element with a size of 8 octets.
+fn put(out: &mut Vec<u8>, id: &[u8], content: &[u8]) -> Result<(), AllocError> {
+    out.extend_from_slice(id)?;
+    out.push(1)?;
+    let size = (content.len() as u64).to_be_bytes();
+    out.extend_from_slice(&size[1..])?;
+    out.extend_from_slice(content)?;
+    Ok(())
+}
+
+/// The one track, of 2x2 pictures.
+fn tracks(alloc: Global) -> Result<Vec<u8>, AllocError> {
+    let mut video = Vec::new(alloc);
+    put(&mut video, &[0xB0], &[2])?;
+    put(&mut video, &[0xBA], &[2])?;
+    let mut entry = Vec::new(alloc);
+    put(&mut entry, &[0xD7], &[1])?;
+    put(&mut entry, &[0x83], &[1])?;
+    put(&mut entry, &[0x86], b"V_FFV1")?;
+    put(&mut entry, &[0x63, 0xA2], &RECORD)?;
+    put(&mut entry, &[0xE0], &video)?;
+    let mut tracks = Vec::new(alloc);
+    put(&mut tracks, &[0xAE], &entry)?;
+    Ok(tracks)
+}
+
+/// A plain file of so many packets, each a Cluster of its own, 40 ms apart.
+fn clip(alloc: Global, frames: u16) -> Result<Vec<u8>, AllocError> {
+    let mut content = Vec::new(alloc);
+    put(&mut content, &[0x16, 0x54, 0xAE, 0x6B], &tracks(alloc)?)?;
+    for frame in 0..frames {
+        let mut block = Vec::new(alloc);
+        block.extend_from_slice(&[0x81, 0, 0, 0x80])?;
+        block.extend_from_slice(&PACKET)?;
+        let mut cluster = Vec::new(alloc);
+        put(
+            &mut cluster,
+            &[0xE7],
+            &(40 * u32::from(frame)).to_be_bytes(),
+        )?;
+        put(&mut cluster, &[0xA3], &block)?;
+        put(&mut content, &[0x1F, 0x43, 0xB6, 0x75], &cluster)?;
+    }
+    let mut header = Vec::new(alloc);
+    put(&mut header, &[0x42, 0x82], b"matroska")?;
+    let mut file = Vec::new(alloc);
+    put(&mut file, &[0x1A, 0x45, 0xDF, 0xA3], &header)?;
+    put(&mut file, &[0x18, 0x53, 0x80, 0x67], &content)?;
+    Ok(file)
+}
+
+/// A run over a script and a clip, and which calls of the vault and of `out` fail.
+struct Case {
+    script: &'static [u8],
+    frames: u16,
+    vault: &'static [u64],
+    out: &'static [u64],
+    status: u8,
+    lines: &'static str,
+    /// How many bytes the exported file has; none: there is no such file.
+    exported: Option<usize>,
+}
+
+const THREE: &[u8] = b"rate 25\nclip A a.mkv\nformat as A\ninsert 0 A 0 3\nexport o.mkv\n";
+
+const CASES: [Case; 9] = [
+    Case {
+        script: THREE,
+        frames: 3,
+        vault: &[],
+        out: &[],
+        status: 0,
+        lines: "ok 3\nasked 1\nexport 1 done 3\n",
+        exported: Some(261 + 7),
+    },
+    Case {
+        script: b"rate 25\r\nclip A a.mkv\r\nformat as A\r\ninsert 0 A 0 26\r\nexport o.mkv",
+        frames: 26,
+        vault: &[],
+        out: &[],
+        status: 0,
+        lines: "ok 26\nasked 1\nexport 1 done 26\n",
+        exported: Some(724 + 7),
+    },
+    Case {
+        script: b"rate 25\nclip A a.mkv\nformat as A\ninsert 0 A 0 4\nexport o.mkv\n",
+        frames: 3,
+        vault: &[],
+        out: &[],
+        status: 0,
+        lines: "refused OutsideClip\nrefused EmptyTimeline\n",
+        exported: None,
+    },
+    Case {
+        script: b"rate 25\nclip A a.mkv\nformat as A\nwant 0 3\nexport o.mkv\n",
+        frames: 3,
+        vault: &[],
+        out: &[],
+        status: 3,
+        lines: "fault line 4 Later\n",
+        exported: None,
+    },
+    Case {
+        script: b"rate 25\nclip A b.mkv\nformat as A\ninsert 0 A 0 3\nexport o.mkv\n",
+        frames: 3,
+        vault: &[],
+        out: &[],
+        status: 4,
+        lines: "store b.mkv Missing\n",
+        exported: None,
+    },
+    Case {
+        script: b"rate 25\nclip A u.mkv\nformat as A\ninsert 0 A 0 3\nexport o.mkv\n",
+        frames: 3,
+        vault: &[],
+        out: &[],
+        status: 3,
+        lines: "fault line 2 clip Later\n",
+        exported: None,
+    },
+    Case {
+        script: THREE,
+        frames: 3,
+        vault: &[2],
+        out: &[],
+        status: 4,
+        lines: "ok 3\nasked 1\nexport 1 sink\n",
+        // Half of what stands before Info: the EBML header of 40 bytes and the head of the Segment of 12.
+        exported: Some(52 / 2),
+    },
+    Case {
+        script: THREE,
+        frames: 3,
+        vault: &[],
+        out: &[2],
+        status: 4,
+        lines: "ok 3\nasked",
+        exported: Some(261 + 7),
+    },
+    Case {
+        script: b"",
+        frames: 3,
+        vault: &[],
+        out: &[],
+        status: 3,
+        lines: "fault line 1 Later\n",
+        exported: None,
+    },
+];
+
+/// The store of a case: its script, its clip, and the clip with a Cluster of unknown size.
+fn store_of(alloc: Global, case: &Case) -> Result<MemStore, AllocError> {
+    let mut store = MemStore::start(alloc, Vec::new(alloc));
+    store.add("s", Vec::from_slice(alloc, case.script)?)?;
+    store.add("a.mkv", clip(alloc, case.frames)?)?;
+    store.add("u.mkv", unknown_cluster(alloc)?)?;
+    Ok(store)
+}
+
+/// A clip whose last Cluster has an unknown size.
+fn unknown_cluster(alloc: Global) -> Result<Vec<u8>, AllocError> {
+    let mut content = Vec::new(alloc);
+    put(&mut content, &[0x16, 0x54, 0xAE, 0x6B], &tracks(alloc)?)?;
+    content.extend_from_slice(&[0x1F, 0x43, 0xB6, 0x75, 0xFF])?;
+    put(&mut content, &[0xE7], &[0])?;
+    let mut header = Vec::new(alloc);
+    put(&mut header, &[0x42, 0x82], b"matroska")?;
+    let mut file = Vec::new(alloc);
+    put(&mut file, &[0x1A, 0x45, 0xDF, 0xA3], &header)?;
+    put(&mut file, &[0x18, 0x53, 0x80, 0x67], &content)?;
+    Ok(file)
+}
+
+#[test]
+fn each_course(rt: HostRuntime) -> Result<(), Fail> {
+    let alloc = rt.alloc();
+    for case in &CASES {
+        let mut store = store_of(alloc, case)?;
+        let mut vault = MemVault::start(alloc, Vec::from_slice(alloc, case.vault)?);
+        let mut screen = MemSink::start(alloc, Vec::new(alloc));
+        let mut out = MemSink::start(alloc, Vec::from_slice(alloc, case.out)?);
+        let words = vec![in alloc; String::from_str(alloc, "s")?]?;
+        let outcome = run_alone(alloc, &words, &mut store, &mut vault, &mut screen, &mut out);
+        assert_eq!(rt; outcome.status, case.status, "{}", case.lines);
+        assert_eq!(rt; out.bytes(), case.lines.as_bytes());
+        assert_eq!(rt; vault.file("o.mkv").map(|file| file.len()), case.exported);
+    }
+    Ok(())
+}
+
+/// The exported file of three packets: where its Cluster begins, its first bytes, and its last packet.
+#[test]
+fn exported_bytes(rt: HostRuntime) -> Result<(), Fail> {
+    let alloc = rt.alloc();
+    let mut store = store_of(alloc, &CASES[0])?;
+    let mut vault = MemVault::start(alloc, Vec::new(alloc));
+    let mut screen = MemSink::start(alloc, Vec::new(alloc));
+    let mut out = MemSink::start(alloc, Vec::new(alloc));
+    let words = vec![in alloc; String::from_str(alloc, "s")?]?;
+    run_alone(alloc, &words, &mut store, &mut vault, &mut screen, &mut out);
+    let file = vault.file("o.mkv").ok_or("the file is there")?;
+    assert_eq!(rt; file.len(), 268);
+    let cluster = 52 + 94 + 7;
+    let first = [0x1F, 0x43, 0xB6, 0x75, 1, 0, 0, 0, 0, 0, 0, 0x40];
+    assert_eq!(rt; &file[cluster..cluster + 12], first.as_slice());
+    let block = cluster + 12 + 10;
+    for (index, time) in [0u8, 40, 80].iter().enumerate() {
+        let at = block + 18 * index;
+        assert_eq!(rt; &file[at + 9..at + 13], [0x81, 0, *time, 0x80].as_slice());
+        assert_eq!(rt; &file[at + 13..at + 18], PACKET.as_slice());
+    }
+    Ok(())
+}
+
+/// Words that aren't of the form.
+#[test]
+fn usage(rt: HostRuntime) -> Result<(), Fail> {
+    let alloc = rt.alloc();
+    let mut store = store_of(alloc, &CASES[0])?;
+    let mut vault = MemVault::start(alloc, Vec::new(alloc));
+    let mut screen = MemSink::start(alloc, Vec::new(alloc));
+    let mut out = MemSink::start(alloc, Vec::new(alloc));
+    let outcome = run_alone(alloc, &[], &mut store, &mut vault, &mut screen, &mut out);
+    assert_eq!(rt; outcome.status, 2);
+    let line = "usage: timeline SCRIPT [--workers N] [--cache N] [--journal N]\n";
+    assert_eq!(rt; out.bytes(), line.as_bytes());
+    Ok(())
+}
