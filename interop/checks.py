@@ -9,12 +9,14 @@ from bad import check_bad_input
 from demo import check_demo
 from good import check_clips
 from ids import check_ids
+from remade import check_plain
 from report import Report
 from tools import HERE
 
 PARTS = {
     "ids": lambda report, work: check_ids(report),
     "demo": check_demo,
+    "plain": check_plain,
     "clips": check_clips,
     "bad": check_bad_input,
 }
