@@ -10,7 +10,6 @@ from pathlib import Path
 from typing import Dict, NamedTuple, Optional, Sequence
 
 import clips
-import mkv
 import variants
 from report import Report, differs
 from tools import PROGRAM, changed, done, ffmpeg, has_encoder, run, script, sums_of, timeline
@@ -165,7 +164,8 @@ def clip_files(ground: Ground):
         yield Try(f"plain clip: {name}", done(FRAMES), 0, {"a.mkv": data}, writes="o.mkv")
     for name, data in {**variants.other_files(ground.clip), **variants.cuts(ground.data)}.items():
         yield Try(f"clip: {name}", later, 3, {"a.mkv": data})
-    yield Try("clip: straight from ffmpeg", later, 3, {"a.mkv": ground.from_ffmpeg})
+    if ground.clip.codec_id == b"V_MS/VFW/FOURCC":  # as ffmpeg 5.1 writes it; later ones may write plain files
+        yield Try("clip: straight from ffmpeg", later, 3, {"a.mkv": ground.from_ffmpeg})
     yield Try("clip: an export of the program", later, 3, {"a.mkv": ground.export})
 
 

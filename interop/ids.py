@@ -1,7 +1,6 @@
 """The ids of the crate mkv_elements against those of this folder, which read ffmpeg's files."""
 
 import re
-from pathlib import Path
 
 import mkv
 from report import Report

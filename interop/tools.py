@@ -9,7 +9,7 @@ from typing import Dict, List, NamedTuple, Tuple
 
 HERE = Path(__file__).resolve().parent
 PROGRAM = os.environ.get("TIMELINE_PROGRAM") or str(HERE.parent / "timeline")
-SECONDS = 60
+SECONDS, TIMED_OUT = 60, 124
 
 
 class Ran(NamedTuple):
@@ -21,9 +21,11 @@ class Ran(NamedTuple):
 def run(words, folder, stdout=subprocess.PIPE) -> Ran:
     """Runs a command in a folder, with no standard input and for at most a minute."""
     words = [str(it) for it in words]
-    ran = subprocess.run(
-        words, cwd=folder, stdin=subprocess.DEVNULL, stdout=stdout, stderr=subprocess.PIPE, timeout=SECONDS
-    )
+    pipes = {"stdin": subprocess.DEVNULL, "stdout": stdout, "stderr": subprocess.PIPE}
+    try:
+        ran = subprocess.run(words, cwd=folder, timeout=SECONDS, **pipes)
+    except subprocess.TimeoutExpired:
+        return Ran(TIMED_OUT, "", f"{words[0]} had not ended after {SECONDS} s")
     return Ran(ran.returncode, (ran.stdout or b"").decode(errors="replace"), ran.stderr.decode(errors="replace"))
 
 
