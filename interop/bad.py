@@ -1,0 +1,211 @@
+"""Bad input: scripts, clips, names and outputs that the program must answer with its named line and status,
+leaving every other file as it was. Beside them stand odd input that it must take.
+
+What a line says of a faulty script or clip is the word `Later` while the program reads plain files and one form of
+script alone: WHY_SCRIPT and WHY_CLIP below.
+"""
+
+import shutil
+from pathlib import Path
+from typing import Dict, NamedTuple, Optional, Sequence
+
+import clips
+import variants
+from report import Report, differs
+from tools import PROGRAM, changed, done, ffmpeg, has_encoder, run, script, sums_of, timeline
+from written import written_file
+
+WHY_SCRIPT = "Later"
+WHY_CLIP = "clip Later"
+USAGE = "usage: timeline SCRIPT [--workers N] [--cache N] [--journal N]\n"
+REFUSED = "refused OutsideClip\nrefused EmptyTimeline\n"
+NOT_WRITTEN = "ok 3\nasked 1\nexport 1 sink\n"
+SCRIPT_LIMIT = 16 << 20
+FRAMES, RATE = 3, 25
+
+
+class Try(NamedTuple):
+    """A run of the program: the files that it finds, its words, and what it must print, end with and may write."""
+
+    name: str
+    out: str
+    status: int
+    files: Dict[str, bytes] = {}
+    words: Sequence[str] = ("s",)
+    writes: Optional[str] = None
+    under: Sequence[str] = ()
+
+
+class Ground:
+    """A folder with a script that works, a plain clip, an old export and a file that has nothing to do with them."""
+
+    def __init__(self, work: Path):
+        self.folder = work / "bad"
+        clip = clips.Clip("128x96", "yuv420p", clips.RANGE, 4, 1, FRAMES, ())
+        self.clip = clips.make(clip, work / "bad-clip")
+        self.data = (work / "bad-clip" / "a.mkv").read_bytes()
+        self.from_ffmpeg = (work / "bad-clip" / "source.mkv").read_bytes()
+        self.export = self.written(RATE)
+        self.files = {
+            "s": script(length=FRAMES, rate=RATE),
+            "a.mkv": self.data,
+            "o.mkv": b"an older export, longer than the new one" * 1000,
+            "bystander": b"this file is not the program's",
+            "sub/a.mkv": self.data,
+        }
+
+    def written(self, rate: int) -> bytes:
+        return written_file(self.clip.record, self.clip.width, self.clip.height, rate, self.clip.packets())
+
+    def lay(self, files: Dict[str, bytes]):
+        shutil.rmtree(self.folder, ignore_errors=True)
+        for name, content in {**self.files, **files}.items():
+            path = self.folder / name
+            path.parent.mkdir(parents=True, exist_ok=True)
+            path.write_bytes(content)
+        (self.folder / "full.mkv").symlink_to("/dev/full")
+        (self.folder / "full").mkdir()
+
+    def attempt(self, report: Report, it: Try):
+        """Lays the files, runs the program, and checks what it said and what it wrote."""
+        self.lay(it.files)
+        before = sums_of(self.folder)
+        ran = run([*it.under, PROGRAM, *it.words], self.folder)
+        after = sums_of(self.folder)
+        faults = [differs("the output", ran.out, it.out), differs("the status", ran.status, it.status), ran.err]
+        faults.append(changed(before, after, [it.writes] if it.writes else []))
+        if it.writes:
+            path = self.folder / it.writes
+            is_right = path.is_file() and path.read_bytes() == self.export
+            faults.append("" if is_right else f"{it.writes} isn't the right export")
+        report.check(it.name, faults)
+
+
+def faulty(name: str, line: int, text: bytes) -> Try:
+    return Try(f"script {name}", f"fault line {line} {WHY_SCRIPT}\n", 3, {"s": text})
+
+
+def taken(name: str, text: bytes) -> Try:
+    return Try(f"script {name}", done(FRAMES), 0, {"s": text}, writes="o.mkv")
+
+
+def padded(size: int) -> bytes:
+    """The script that works, brought to a size by blanks between two words of its first line."""
+    good = script(length=FRAMES, rate=RATE)
+    return good.replace(b"rate ", b"rate " + b" " * (size - len(good)), 1)
+
+
+def changed_line(line: int, text: bytes) -> bytes:
+    """The script that works with another line in the place of one, or after the last."""
+    lines = script(length=FRAMES, rate=RATE).splitlines()
+    lines[line - 1 : line] = [text]
+    return b"\n".join([*lines, b""])
+
+
+def scripts():
+    good = script(length=FRAMES, rate=RATE)
+    wrong_lines = {
+        "rate of 0": (1, b"rate 0"),
+        "rate of 241": (1, b"rate 241"),
+        "rate of no number": (1, b"rate fast"),
+        "clip without a file": (2, b"clip A"),
+        "clip named black": (2, b"clip black a.mkv"),
+        "format as another name": (3, b"format as B"),
+        "insert of another name": (4, b"insert 0 B 0 3"),
+        "insert of no frames": (4, b"insert 0 A 0 0"),
+        "insert of 1,000,001 frames": (4, b"insert 0 A 0 1000001"),
+        "insert at a place that isn't 0": (4, b"insert 1 A 0 3"),
+        "insert with a word too many": (4, b"insert 0 A 0 3 3"),
+        "another command": (4, b"want 0 3"),
+        "export without a file": (5, b"export"),
+        "line after the last": (6, b"undo"),
+        "line that isn't UTF-8": (2, b"clip A \xff.mkv"),
+        "name that isn't UTF-8": (5, b"export \xc3.mkv"),
+        "words of zeros": (1, bytes(20)),
+    }
+    yield from (faulty(name, line, changed_line(line, text)) for name, (line, text) in wrong_lines.items())
+    yield faulty("of no bytes", 1, b"")
+    yield faulty("of one line", 2, b"rate 25\n")
+    yield faulty("without its last line", 5, b"".join(good.splitlines(True)[:4]))
+    yield faulty("of 16 MiB in one word", 1, b"x" * SCRIPT_LIMIT)
+    yield Try("script of 16 MiB and one byte", "store s TooLarge\n", 4, {"s": padded(SCRIPT_LIMIT + 1)})
+    yield taken("of 16 MiB", padded(SCRIPT_LIMIT))
+    yield taken("with CR LF line ends", good.replace(b"\n", b"\r\n"))
+    yield taken("without its last line end", good[:-1])
+    yield taken("with blanks and tabs about its words", good.replace(b" ", b" \t ").replace(b"\n", b" \n"))
+
+
+def words():
+    for given in ((), ("--nonsense",), ("--help",), ("s", "s"), ("-s",)):
+        yield Try(f"words {' '.join(given) or '(none)'}", USAGE, 2, words=given)
+    yield Try("a script that isn't there", "store nowhere Missing\n", 4, words=("nowhere",))
+    yield Try("a script that is a folder", "store sub Failed\n", 4, words=("sub",))
+    yield Try("a script in a folder", done(FRAMES), 0, {"sub/s": script()}, words=("sub/s",), writes="o.mkv")
+
+
+def names():
+    asked = lambda **words: {"s": script(length=FRAMES, rate=RATE, **words)}
+    yield Try("a clip that isn't there", "store nowhere.mkv Missing\n", 4, asked(clip="nowhere.mkv"))
+    yield Try("a clip in a folder that isn't there", "store no/a.mkv Missing\n", 4, asked(clip="no/a.mkv"))
+    yield Try("a clip that is a folder", "store sub Failed\n", 4, asked(clip="sub"))
+    yield Try("a clip in a folder", done(FRAMES), 0, asked(clip="sub/a.mkv"), writes="o.mkv")
+    yield Try("an export in a folder", done(FRAMES), 0, asked(export="sub/o.mkv"), writes="sub/o.mkv")
+    yield Try("an export with a name of other letters", done(FRAMES), 0, asked(export="é.mkv"), writes="é.mkv")
+    yield Try("an export into a folder that isn't there", NOT_WRITTEN, 4, asked(export="no/o.mkv"))
+    yield Try("an export onto a folder", NOT_WRITTEN, 4, asked(export="sub"))
+    yield Try("an export onto /dev/full", NOT_WRITTEN, 4, asked(export="full.mkv"))
+    yield Try("a cut past the clip", REFUSED, 0, {"s": script(length=FRAMES + 1)})
+    yield Try("a cut far past the clip", REFUSED, 0, {"s": script(length=1_000_000)})
+
+
+def clip_files(ground: Ground):
+    later = f"fault line 2 {WHY_CLIP}\n"
+    for name, data in variants.plain_files(ground.clip).items():
+        yield Try(f"plain clip: {name}", done(FRAMES), 0, {"a.mkv": data}, writes="o.mkv")
+    for name, data in {**variants.other_files(ground.clip), **variants.cuts(ground.data)}.items():
+        yield Try(f"clip: {name}", later, 3, {"a.mkv": data})
+    if ground.clip.codec_id == b"V_MS/VFW/FOURCC":  # as ffmpeg 5.1 writes it; later ones may write plain files
+        yield Try("clip: straight from ffmpeg", later, 3, {"a.mkv": ground.from_ffmpeg})
+    yield Try("clip: an export of the program", later, 3, {"a.mkv": ground.export})
+
+
+def other_codec(report: Report, ground: Ground, work: Path):
+    """A clip of another codec, where this ffmpeg can make one."""
+    encoder = next((it for it in ("libx264", "mpeg4") if has_encoder(it)), None)
+    if encoder:
+        file = work / "bad-clip" / f"{encoder}.mkv"
+        ffmpeg(["-f", "lavfi", "-i", "testsrc2=size=64x48", "-frames:v", 3, "-c:v", encoder, "-threads", 1, file], work)
+        files = {"a.mkv": file.read_bytes()}
+        ground.attempt(report, Try(f"clip: coded by {encoder}", f"fault line 2 {WHY_CLIP}\n", 3, files))
+
+
+def full_disk(report: Report, ground: Ground):
+    """An export onto a disk of one page, where this machine lets a script mount one that ends with the run."""
+    alone = ["unshare", "--mount", "sh", "-c", 'mount -t tmpfs -o size=4k none full && exec "$0" "$@"']
+    ground.lay({})
+    if shutil.which("unshare") is None or run([*alone, "true"], ground.folder).status:
+        print("skipped a full disk: no disk can be mounted here", flush=True)
+        return
+    files = {"s": script(length=FRAMES, rate=RATE, export="full/o.mkv")}
+    ground.attempt(report, Try("an export onto a full disk", NOT_WRITTEN, 4, files, under=alone))
+
+
+def full_output(report: Report, ground: Ground):
+    """Standard output that takes nothing: status 4."""
+    ground.lay({})
+    before = sums_of(ground.folder)
+    with open("/dev/full", "wb") as full:
+        ran = timeline(["s"], ground.folder, stdout=full)
+    report.check(
+        "standard output onto /dev/full",
+        [differs("the status", ran.status, 4), ran.err, changed(before, sums_of(ground.folder), ["o.mkv"])],
+    )
+
+
+def check_bad_input(report: Report, work: Path):
+    ground = Ground(work)
+    for it in (*scripts(), *words(), *names(), *clip_files(ground)):
+        ground.attempt(report, it)
+    other_codec(report, ground, work)
+    full_disk(report, ground)
+    full_output(report, ground)

@@ -1,0 +1,48 @@
+#!/usr/bin/env python3
+"""All checks of this folder, over the program that TIMELINE_PROGRAM or ../timeline names. `run` calls it."""
+
+import shutil
+import sys
+from pathlib import Path
+
+from bad import check_bad_input
+from demo import check_demo
+from good import check_clips
+from ids import check_ids
+from remade import check_plain
+from report import Report
+from tools import HERE
+
+PARTS = {
+    "ids": lambda report, work: check_ids(report),
+    "demo": check_demo,
+    "plain": check_plain,
+    "clips": check_clips,
+    "bad": check_bad_input,
+}
+
+
+def attempt(report: Report, part: str, work: Path):
+    """One part; whatever stops it counts as a failed check, and the other parts are still tried."""
+    try:
+        PARTS[part](report, work)
+    except Exception as fault:
+        report.check(f"the part {part}", f"stopped by {type(fault).__name__}: {fault}")
+
+
+def main(parts) -> int:
+    unknown = [it for it in parts if it not in PARTS]
+    if unknown:
+        print(f"usage: run [{' | '.join(PARTS)}]..", file=sys.stderr)
+        return 2
+    work = HERE / "work"
+    shutil.rmtree(work, ignore_errors=True)
+    work.mkdir()
+    report = Report()
+    for part in parts or PARTS:
+        attempt(report, part, work)
+    return report.close()
+
+
+if __name__ == "__main__":
+    sys.exit(main(sys.argv[1:]))
