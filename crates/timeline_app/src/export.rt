@@ -9,7 +9,7 @@ ghost use Rattle.timeline_app.specs.Reading.{view};
 ghost use Rattle.timeline_app.specs.Run.{IsInside, PlacesLie, bytes_at, with_packets, AddsPackets, WritesExport, EndsExport, ChangesExport, IsPartial, ending_of, started_over};
 
 use crate::job::Job;
-use mkv_read::Place;
+use mkv_read::{ClipIndex, Place};
 use mkv_write::{MkvWriter, WriteFault};
 use std::alloc::Global;
 use tl_ports::{PutFault, Vault};
@@ -87,6 +87,14 @@ fn write_packets<V: Vault>(alloc: Global, job: &Job, vault: &mut V) -> Result<u3
     }
 }
 
+/// The places of a clip's first packets.
+fn first_places(clip: &ClipIndex, len: usize) -> &[Place]
+    requires { len ≤ length clip.now.packets }
+    ensures { result.now ≡ take len clip.now.packets }
+{
+    &clip.packets.as_slice()[..len]
+}
+
 /// Writes the packets and the end of the file.
 fn write_rest<V: Vault>(vault: &mut V, mut writer: MkvWriter, job: &Job) -> Result<u32, WriteFault>
     requires begun { IsSome (V.begun vault.old) }
@@ -99,7 +107,7 @@ fn write_rest<V: Vault>(vault: &mut V, mut writer: MkvWriter, job: &Job) -> Resu
     ensures kept { KeepsBegun V.tells V.begun V.file V.faults vault.old vault.new }
     ensures cause { WriteHasCause (V.faults vault.old) (V.faults vault.new) result }
 {
-    let places = &job.index.packets.as_slice()[..job.script.len as usize];
+    let places = first_places(&job.index, job.script.len as usize);
     match write_frames(vault, &mut writer, &job.bytes, places) {
         Ok(()) => writer.finish(vault),
         Err(fault) => Err(fault),
