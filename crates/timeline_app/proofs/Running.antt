@@ -10,20 +10,22 @@ use Rattle.timeline_app.specs.declared.stop.Stop.{Stop}
 use Rattle.timeline_app.specs.declared.stop.Stop.TheVariants as stops
 use Rattle.timeline_app.specs.declared.export.Ending.TheVariants as endings
 use Rattle.timeline_app.specs.Script.{Form}
-use Rattle.timeline_app.specs.Lines.{usage_line}
+use Rattle.timeline_app.specs.Lines.{usage_line, refused_lines}
 use Rattle.timeline_app.specs.Run.{IsJob, IsInside, IsPartial, Says, Puts, StopsWith, StopHasCause, stop_line, stop_status, status_after, ChangesExport, Plays, PlaysExport, PlaysRefusal, export_lines}
-use Rattle.timeline_app.specs.Top.{Works, Played, Stopped, Unsunk, ChangesOnlyExport, Runs}
+use Rattle.timeline_app.specs.Top.{Works, Played, Stopped, Unsunk, ChangesOnlyExport, SaysTranscript, Runs}
+use Rattle.timeline_app.proofs.Saying.{whole_front}
 
 -- The last line decides only between its status and want of memory.
 pub stops_with : (tells rose : Type 0) (before after text : List ℕ) (said : Result Unit PutFault) (status : ℕ) → Says tells before after text rose said → StopsWith tells rose before after text status (status_after said status)
-stops_with tells rose before after text (Ok done) status h = inr (refl, inl h)
-stops_with tells rose before after text (Err putting.Failed) status h = inr (refl, inr h)
-stops_with tells rose before after text (Err putting.NoMemory) status h = inl refl
+stops_with tells rose before after text (Ok done) status h = record { ended = inr (refl, inl h); said = whole_front tells before after text h }
+stops_with tells rose before after text (Err putting.Failed) status h = record { ended = inr (refl, inr h); said = h.1 }
+stops_with tells rose before after text (Err putting.NoMemory) status h = record { ended = inl refl; said = h }
 
--- The words aren't of the form.
-pub run_misused : (tells rose : Type 0) (file : List ℕ → Option (List ℕ)) (vault_tells vault_rose : Type 0) (old : List ℕ → Option (List ℕ)) (out_tells out_rose : Type 0) (before after : List ℕ) (status : ℕ)
-    → StopsWith out_tells out_rose before after usage_line 2 status → Runs None tells rose file vault_tells vault_rose old old out_tells out_rose before after status
-run_misused tells rose file vt vr old ot or before after status (inl memory) = record {
+-- The words aren't of the form, and memory may have run out.
+misused_by : (tells rose : Type 0) (file : List ℕ → Option (List ℕ)) (vault_tells vault_rose : Type 0) (old : List ℕ → Option (List ℕ)) (out_tells out_rose : Type 0) (before after : List ℕ) (status : ℕ)
+    → (status ≡ 5) ⊎ ((status ≡ 2) × Puts out_tells out_rose before after usage_line) → SaysTranscript None tells rose file out_tells before after
+    → Runs None tells rose file vault_tells vault_rose old old out_tells out_rose before after status
+misused_by tells rose file vt vr old ot or before after status (inl memory) lines = record {
   played = λ e. absurd (omega (arith, e, memory));
   misused = λ e. absurd (omega (arith, e, memory));
   faulty = λ e. absurd (omega (arith, e, memory));
@@ -31,8 +33,9 @@ run_misused tells rose file vt vr old ot or before after status (inl memory) = r
   no_other = inr (inr (inr (inr memory)));
   usage = λ _. inr memory;
   files = λ told other. inl refl;
+  lines = lines;
 }
-run_misused tells rose file vt vr old ot or before after status (inr h) = record {
+misused_by tells rose file vt vr old ot or before after status (inr h) lines = record {
   played = λ e. absurd (omega (arith, e, h.0));
   misused = λ _. (refl, h.1);
   faulty = λ e. absurd (omega (arith, e, h.0));
@@ -40,7 +43,13 @@ run_misused tells rose file vt vr old ot or before after status (inr h) = record
   no_other = inr (inl h.0);
   usage = λ _. inl h.0;
   files = λ told other. inl refl;
+  lines = lines;
 }
+
+-- The words aren't of the form.
+pub run_misused : (tells rose : Type 0) (file : List ℕ → Option (List ℕ)) (vault_tells vault_rose : Type 0) (old : List ℕ → Option (List ℕ)) (out_tells out_rose : Type 0) (before after : List ℕ) (status : ℕ)
+    → StopsWith out_tells out_rose before after usage_line 2 status → Runs None tells rose file vault_tells vault_rose old old out_tells out_rose before after status
+run_misused tells rose file vt vr old ot or before after status h = misused_by tells rose file vt vr old ot or before after status h.ended (usage_line, inl (refl, refl), h.said)
 
 -- a name that is there is none that isn't
 named : {A : Type 0} (name : List ℕ) → Some name ≡ None → A
@@ -48,8 +57,8 @@ named name e = absurd cc
 
 -- The session didn't start, for want of memory.
 early_memory : (name : List ℕ) (tells rose : Type 0) (file : List ℕ → Option (List ℕ)) (vault_tells vault_rose : Type 0) (old : List ℕ → Option (List ℕ)) (out_tells out_rose : Type 0) (before after : List ℕ) (status : ℕ)
-    → status ≡ 5 → Runs (Some name) tells rose file vault_tells vault_rose old old out_tells out_rose before after status
-early_memory name tells rose file vt vr old ot or before after status memory = record {
+    → status ≡ 5 → SaysTranscript (Some name) tells rose file out_tells before after → Runs (Some name) tells rose file vault_tells vault_rose old old out_tells out_rose before after status
+early_memory name tells rose file vt vr old ot or before after status memory lines = record {
   played = λ e. absurd (omega (arith, e, memory));
   misused = λ e. absurd (omega (arith, e, memory));
   faulty = λ e. absurd (omega (arith, e, memory));
@@ -57,12 +66,13 @@ early_memory name tells rose file vt vr old ot or before after status memory = r
   no_other = inr (inr (inr (inr memory)));
   usage = λ e. named name e;
   files = λ told other. inl refl;
+  lines = lines;
 }
 
 -- The session didn't start, for a cause of status 3 or 4.
 early_three : (name : List ℕ) (tells rose : Type 0) (file : List ℕ → Option (List ℕ)) (vault_tells vault_rose : Type 0) (old : List ℕ → Option (List ℕ)) (out_tells out_rose : Type 0) (before after : List ℕ) (status : ℕ)
-    → status ≡ 3 → Stopped 3 (Some name) tells rose file out_tells out_rose before after → Runs (Some name) tells rose file vault_tells vault_rose old old out_tells out_rose before after status
-early_three name tells rose file vt vr old ot or before after status three h = record {
+    → status ≡ 3 → Stopped 3 (Some name) tells rose file out_tells out_rose before after → SaysTranscript (Some name) tells rose file out_tells before after → Runs (Some name) tells rose file vault_tells vault_rose old old out_tells out_rose before after status
+early_three name tells rose file vt vr old ot or before after status three h lines = record {
   played = λ e. absurd (omega (arith, e, three));
   misused = λ e. absurd (omega (arith, e, three));
   faulty = λ _. h;
@@ -70,11 +80,12 @@ early_three name tells rose file vt vr old ot or before after status three h = r
   no_other = inr (inr (inl three));
   usage = λ e. named name e;
   files = λ told other. inl refl;
+  lines = lines;
 }
 
 early_four : (name : List ℕ) (tells rose : Type 0) (file : List ℕ → Option (List ℕ)) (vault_tells vault_rose : Type 0) (old : List ℕ → Option (List ℕ)) (out_tells out_rose : Type 0) (before after : List ℕ) (status : ℕ)
-    → status ≡ 4 → Stopped 4 (Some name) tells rose file out_tells out_rose before after → Runs (Some name) tells rose file vault_tells vault_rose old old out_tells out_rose before after status
-early_four name tells rose file vt vr old ot or before after status four h = record {
+    → status ≡ 4 → Stopped 4 (Some name) tells rose file out_tells out_rose before after → SaysTranscript (Some name) tells rose file out_tells before after → Runs (Some name) tells rose file vault_tells vault_rose old old out_tells out_rose before after status
+early_four name tells rose file vt vr old ot or before after status four h lines = record {
   played = λ e. absurd (omega (arith, e, four));
   misused = λ e. absurd (omega (arith, e, four));
   faulty = λ e. absurd (omega (arith, e, four));
@@ -82,20 +93,28 @@ early_four name tells rose file vt vr old ot or before after status four h = rec
   no_other = inr (inr (inr (inl four)));
   usage = λ e. named name e;
   files = λ told other. inl refl;
+  lines = lines;
 }
+
+-- The session didn't start: its status is that of its cause, or memory ran out.
+stopped_by : (name : List ℕ) (tells rose : Type 0) (file : List ℕ → Option (List ℕ)) (vault_tells vault_rose : Type 0) (old : List ℕ → Option (List ℕ)) (out_tells out_rose : Type 0) (before after : List ℕ) (stop : Stop) (status : ℕ)
+    → StopHasCause tells file name rose stop → (status ≡ 5) ⊎ ((status ≡ stop_status stop) × Puts out_tells out_rose before after (stop_line stop)) → SaysTranscript (Some name) tells rose file out_tells before after
+    → Runs (Some name) tells rose file vault_tells vault_rose old old out_tells out_rose before after status
+stopped_by name tells rose file vt vr old ot or before after stop status cause (inl memory) lines = early_memory name tells rose file vt vr old ot or before after status memory lines
+stopped_by name tells rose file vt vr old ot or before after (stops.Unfetched of fault) status cause (inr h) lines =
+    early_four name tells rose file vt vr old ot or before after status h.0 (record { of = name; named = refl; stop = stops.Unfetched of fault; cause = cause; status_is = refl; line = h.1 }) lines
+stopped_by name tells rose file vt vr old ot or before after (stops.Faulty n) status cause (inr h) lines =
+    early_three name tells rose file vt vr old ot or before after status h.0 (record { of = name; named = refl; stop = stops.Faulty n; cause = cause; status_is = refl; line = h.1 }) lines
+stopped_by name tells rose file vt vr old ot or before after stops.NotPlain status cause (inr h) lines =
+    early_three name tells rose file vt vr old ot or before after status h.0 (record { of = name; named = refl; stop = stops.NotPlain; cause = cause; status_is = refl; line = h.1 }) lines
+stopped_by name tells rose file vt vr old ot or before after stops.NoMemory status cause (inr h) lines = early_memory name tells rose file vt vr old ot or before after status h.0 lines
 
 -- The session didn't start.
 pub run_stopped : (name : List ℕ) (tells rose : Type 0) (file : List ℕ → Option (List ℕ)) (vault_tells vault_rose : Type 0) (old : List ℕ → Option (List ℕ)) (out_tells out_rose : Type 0) (before after : List ℕ) (stop : Stop) (status : ℕ)
     → StopHasCause tells file name rose stop → StopsWith out_tells out_rose before after (stop_line stop) (stop_status stop) status
     → Runs (Some name) tells rose file vault_tells vault_rose old old out_tells out_rose before after status
-run_stopped name tells rose file vt vr old ot or before after stop status cause (inl memory) = early_memory name tells rose file vt vr old ot or before after status memory
-run_stopped name tells rose file vt vr old ot or before after (stops.Unfetched of fault) status cause (inr h) =
-    early_four name tells rose file vt vr old ot or before after status h.0 (record { of = name; named = refl; stop = stops.Unfetched of fault; cause = cause; status_is = refl; line = h.1 })
-run_stopped name tells rose file vt vr old ot or before after (stops.Faulty n) status cause (inr h) =
-    early_three name tells rose file vt vr old ot or before after status h.0 (record { of = name; named = refl; stop = stops.Faulty n; cause = cause; status_is = refl; line = h.1 })
-run_stopped name tells rose file vt vr old ot or before after stops.NotPlain status cause (inr h) =
-    early_three name tells rose file vt vr old ot or before after status h.0 (record { of = name; named = refl; stop = stops.NotPlain; cause = cause; status_is = refl; line = h.1 })
-run_stopped name tells rose file vt vr old ot or before after stops.NoMemory status cause (inr h) = early_memory name tells rose file vt vr old ot or before after status h.0
+run_stopped name tells rose file vt vr old ot or before after stop status cause h =
+    stopped_by name tells rose file vt vr old ot or before after stop status cause h.ended (stop_line stop, inr (inl (name, refl, (stop, cause, refl))), h.said)
 
 -- Playing has no other status than 0, 4 and 5.
 apart : {A : Type 0} (status other : ℕ) → (status ≡ 0) ⊎ ((status ≡ 4) ⊎ (status ≡ 5)) → (other ≡ 2) ⊎ (other ≡ 3) → status ≡ other → A
@@ -144,6 +163,7 @@ run_played name tells rose file vt vr old new ot or before after script bytes cl
       no_other = one_of status h.no_other;
       usage = λ e. named name e;
       files = changes name tells file vt old new script bytes clip works inside h.file h.files;
+      lines = (export_lines script.len h.said.0, inr (inr (script, bytes, clip, works, inl (inside, (h.said.0, refl)))), h.said.1);
     }
 run_played name tells rose file vt vr old new ot or before after script bytes clip status job (inr (outside, h, files)) =
     let works : Works (Some name) tells file script bytes clip = record { of = name; named = refl; job = job } in
@@ -155,4 +175,5 @@ run_played name tells rose file vt vr old new ot or before after script bytes cl
       no_other = one_of status h.no_other;
       usage = λ e. named name e;
       files = λ told other. inl (files told other);
+      lines = (refused_lines, inr (inr (script, bytes, clip, works, inr (outside, refl))), h.said);
     }

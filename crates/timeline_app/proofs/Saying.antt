@@ -10,7 +10,8 @@ use Rattle.mkv_read.specs.declared.clip.ClipIndex.{ClipIndex}
 use Rattle.timeline_app.specs.declared.export.Ending.{Ending}
 use Rattle.timeline_app.specs.declared.export.Ending.TheVariants as endings
 use Rattle.timeline_app.specs.Script.{Form}
-use Rattle.timeline_app.specs.Run.{Says, EndsExport, ChangesExport, PlaysExport, PlaysRefusal, fault_status, ending_status, export_of}
+use Rattle.timeline_app.specs.Lines.{refused_lines}
+use Rattle.timeline_app.specs.Run.{Says, PutsFront, EndsExport, ChangesExport, PlaysExport, PlaysRefusal, fault_status, ending_status, export_of}
 
 -- a front of the first piece is a front of both
 front_first : (before after first second : List ℕ) → (count : ℕ) × (after ≡ before ++ take count first) → (count : ℕ) × (after ≡ before ++ take count (first ++ second))
@@ -36,20 +37,40 @@ says_both tells before between after first second rose more (Ok done) whole wide
 says_both tells before between after first second rose more (Err putting.Failed) whole wider h = (wider h.0, λ told. front_second before between after first second (whole told) (h.1 told))
 says_both tells before between after first second rose more (Err putting.NoMemory) whole wider h = λ told. front_second before between after first second (whole told) (h told)
 
+-- A whole text is a front of itself.
+pub whole_front : (tells : Type 0) (before after text : List ℕ) → (tells → after ≡ before ++ text) → PutsFront tells before after text
+whole_front tells before after text said = λ told. (length text, said told ∙ ap (λ (x : List ℕ). before ++ x) (sym (take_all (length text) text (omega arith))))
+
+-- What was put of a refused piece is a front of the piece and of what was to follow it.
+pub front_of_first : (tells : Type 0) (before after first second : List ℕ) (rose : Type 0) (fault : PutFault) → Says tells before after first rose (Err fault) → PutsFront tells before after (first ++ second)
+front_of_first tells before after first second rose putting.Failed h = λ told. front_first before after first second (h.1 told)
+front_of_first tells before after first second rose putting.NoMemory h = λ told. front_first before after first second (h told)
+
+-- What was put of a refused second piece, after the first.
+pub front_of_second : (tells : Type 0) (before between after first second : List ℕ) (rose : Type 0) (fault : PutFault) → (tells → between ≡ before ++ first) → Says tells between after second rose (Err fault)
+    → PutsFront tells before after (first ++ second)
+front_of_second tells before between after first second rose putting.Failed whole h = λ told. front_second before between after first second (whole told) (h.1 told)
+front_of_second tells before between after first second rose putting.NoMemory whole h = λ told. front_second before between after first second (whole told) (h told)
+
 -- A line that was refused stops the session.
-pub refusal_stopped : (tells rose : Type 0) (before after text : List ℕ) (fault : PutFault) → Says tells before after text rose (Err fault) → PlaysRefusal tells rose before after (fault_status fault)
-refusal_stopped tells rose before after text putting.Failed h = record { done = λ e. absurd (omega (arith, e)); failed = λ _. h.0; no_other = inr (inl refl) }
-refusal_stopped tells rose before after text putting.NoMemory h = record { done = λ e. absurd (omega (arith, e)); failed = λ e. absurd (omega (arith, e)); no_other = inr (inr refl) }
+pub refusal_stopped : (tells rose : Type 0) (before after : List ℕ) (fault : PutFault) → Says tells before after refused_lines rose (Err fault) → PlaysRefusal tells rose before after (fault_status fault)
+refusal_stopped tells rose before after putting.Failed h = record { done = λ e. absurd (omega (arith, e)); failed = λ _. h.0; no_other = inr (inl refl); said = h.1 }
+refusal_stopped tells rose before after putting.NoMemory h = record { done = λ e. absurd (omega (arith, e)); failed = λ e. absurd (omega (arith, e)); no_other = inr (inr refl); said = h }
+
+-- Both refusals were put.
+pub refusal_done : (tells rose : Type 0) (before after : List ℕ) → (tells → after ≡ before ++ refused_lines) → PlaysRefusal tells rose before after 0
+refusal_done tells rose before after said = record { done = λ _. said; failed = λ e. absurd (omega (arith, e)); no_other = inl refl; said = whole_front tells before after refused_lines said }
 
 -- The same where an export was asked for.
 pub export_stopped : (vault_tells vault_rose : Type 0) (old new : List ℕ → Option (List ℕ)) (tells rose more : Type 0) (before between after : List ℕ) (lines : Ending → List ℕ)
-    (script : Form) (bytes : List ℕ) (clip : ClipIndex) (text : List ℕ) (fault : PutFault) → Says tells before between text rose (Err fault) → (rose → more)
+    (script : Form) (bytes : List ℕ) (clip : ClipIndex) (text : List ℕ) (fault : PutFault) → Says tells between after text rose (Err fault) → (rose → more)
     → ChangesExport vault_tells (old script.export) (new script.export) script bytes clip → KeepsOthers vault_tells script.export old new
+    → (ending : Ending) × PutsFront tells before after (lines ending)
     → PlaysExport vault_tells vault_rose old new tells more before after lines script bytes clip (fault_status fault)
-export_stopped vt vr old new tells rose more before between after lines script bytes clip text putting.Failed h wider file files =
-    record { done = λ e. absurd (omega (arith, e)); failed = λ _. inl (wider h.0); no_other = inr (inl refl); file = file; files = files }
-export_stopped vt vr old new tells rose more before between after lines script bytes clip text putting.NoMemory h wider file files =
-    record { done = λ e. absurd (omega (arith, e)); failed = λ e. absurd (omega (arith, e)); no_other = inr (inr refl); file = file; files = files }
+export_stopped vt vr old new tells rose more before between after lines script bytes clip text putting.Failed h wider file files said =
+    record { done = λ e. absurd (omega (arith, e)); failed = λ _. inl (wider h.0); no_other = inr (inl refl); file = file; files = files; said = said }
+export_stopped vt vr old new tells rose more before between after lines script bytes clip text putting.NoMemory h wider file files said =
+    record { done = λ e. absurd (omega (arith, e)); failed = λ e. absurd (omega (arith, e)); no_other = inr (inr refl); file = file; files = files; said = said }
 
 -- Every line was put: the ending decides.
 pub export_ended : (vault_tells vault_rose : Type 0) (old new : List ℕ → Option (List ℕ)) (tells rose : Type 0) (before after : List ℕ) (lines : Ending → List ℕ)
@@ -63,11 +84,12 @@ export_ended vt vr old new tells rose before after lines script bytes clip (endi
       no_other = inl refl;
       file = file;
       files = files;
+      said = (endings.Done frames, whole_front tells before after (lines (endings.Done frames)) said);
     }
 export_ended vt vr old new tells rose before after lines script bytes clip endings.Sink h said file files =
-    record { done = λ e. absurd (omega (arith, e)); failed = λ _. inr (h, said); no_other = inr (inl refl); file = file; files = files }
+    record { done = λ e. absurd (omega (arith, e)); failed = λ _. inr (h, said); no_other = inr (inl refl); file = file; files = files; said = (endings.Sink, whole_front tells before after (lines endings.Sink) said) }
 export_ended vt vr old new tells rose before after lines script bytes clip endings.NoMemory h said file files =
-    record { done = λ e. absurd (omega (arith, e)); failed = λ e. absurd (omega (arith, e)); no_other = inr (inr refl); file = file; files = files }
+    record { done = λ e. absurd (omega (arith, e)); failed = λ e. absurd (omega (arith, e)); no_other = inr (inr refl); file = file; files = files; said = (endings.NoMemory, whole_front tells before after (lines endings.NoMemory) said) }
 
 -- The same after a text that was put before.
 pub export_after : (vault_tells vault_rose : Type 0) (old new : List ℕ → Option (List ℕ)) (tells rose more : Type 0) (before between after first : List ℕ) (lines all : Ending → List ℕ)
@@ -83,4 +105,9 @@ export_after vt vr old new tells rose more before between after first lines all 
       no_other = h.no_other;
       file = h.file;
       files = h.files;
+      said = (
+        h.said.0,
+        λ told. subst (λ (text : List ℕ). (count : ℕ) × (after ≡ before ++ take count text)) (sym (same h.said.0))
+            (front_second before between after first (lines h.said.0) (whole told) (h.said.1 told)),
+      );
     }

@@ -169,6 +169,10 @@ Says tells before after text rose (Ok done) = tells → after ≡ before ++ text
 Says tells before after text rose (Err putting.Failed) = rose × (tells → (count : ℕ) × (after ≡ before ++ take count text))
 Says tells before after text rose (Err putting.NoMemory) = tells → (count : ℕ) × (after ≡ before ++ take count text)
 
+-- Some front of a text was put.
+abbrev pub PutsFront : (tells : Type 0) (before after text : List ℕ) → Type 0
+PutsFront tells before after text = tells → (count : ℕ) × (after ≡ before ++ take count text)
+
 -- The line that says how the export ended.
 abbrev pub ending_line : Ending → List ℕ
 ending_line (endings.Done frames) = done_line frames
@@ -205,12 +209,15 @@ pub record PlaysExport (vault_tells vault_rose : Type 0) (old new : List ℕ →
   -- whatever the status, the file is as before or holds some front of the export, and no other changed
   pub file : ChangesExport vault_tells (old script.export) (new script.export) script bytes clip
   pub files : KeepsOthers vault_tells script.export old new
+  -- and `out` got some front of the lines
+  pub said : (ending : Ending) × PutsFront out_tells before after (lines ending)
 
 -- What an insert past the clip's end did, by the status: it was refused, and nothing was exported.
 pub record PlaysRefusal (out_tells out_rose : Type 0) (before after : List ℕ) (status : ℕ) : Type 0 where
   pub done : status ≡ 0 → out_tells → after ≡ before ++ refused_lines
   pub failed : status ≡ 4 → out_rose
   pub no_other : (status ≡ 0) ⊎ ((status ≡ 4) ⊎ (status ≡ 5))
+  pub said : PutsFront out_tells before after refused_lines
 
 -- What playing a script did, by the status: its frames lie within the clip and it was exported, or they don't and it was refused.
 abbrev pub Plays : (vault_tells vault_rose : Type 0) (old new : List ℕ → Option (List ℕ)) (out_tells out_rose : Type 0) (before after : List ℕ)
@@ -224,8 +231,9 @@ abbrev pub Puts : (tells rose : Type 0) (before after text : List ℕ) → Type 
 Puts tells rose before after text = (tells → after ≡ before ++ text) ⊎ (rose × (tells → (count : ℕ) × (after ≡ before ++ take count text)))
 
 -- A session ended before its start with this status, once this text was put; or memory ran out.
-abbrev pub StopsWith : (tells rose : Type 0) (before after text : List ℕ) (status result : ℕ) → Type 0
-StopsWith tells rose before after text status result = (result ≡ 5) ⊎ ((result ≡ status) × Puts tells rose before after text)
+pub record StopsWith (tells rose : Type 0) (before after text : List ℕ) (status result : ℕ) : Type 0 where
+  pub ended : (result ≡ 5) ⊎ ((result ≡ status) × Puts tells rose before after text)
+  pub said : PutsFront tells before after text
 
 -- The status after the last line, which was put so.
 abbrev pub status_after : Result Unit PutFault → ℕ → ℕ

@@ -1,11 +1,12 @@
 -- What the top call's statuses say of the run.
 use Rattle.std.specs.Prelude.{◌≡◌, ◌⊎◌, ℕ, ◌<◌, List, ◌++◌, length, Option, None, Some}
 use Rattle.mkv_read.specs.declared.clip.ClipIndex.{ClipIndex}
+use Rattle.timeline_app.specs.declared.export.Ending.{Ending}
 use Rattle.timeline_app.specs.declared.export.Ending.TheVariants as endings
 use Rattle.timeline_app.specs.declared.stop.Stop.{Stop}
 use Rattle.timeline_app.specs.Script.{Form}
 use Rattle.timeline_app.specs.Lines.{usage_line, refused_lines}
-use Rattle.timeline_app.specs.Run.{IsJob, IsInside, IsPartial, export_of, export_lines, StopHasCause, stop_line, stop_status, Puts}
+use Rattle.timeline_app.specs.Run.{IsJob, IsInside, IsPartial, export_of, export_lines, StopHasCause, stop_line, stop_status, Puts, PutsFront}
 
 -- A script of the form and its clip, a plain file, were fetched, of the name that the words give.
 pub record Works (name : Option (List ℕ)) (tells : Type 0) (file : List ℕ → Option (List ℕ)) (script : Form) (bytes : List ℕ) (clip : ClipIndex) : Type 0 where
@@ -45,6 +46,18 @@ ChangesOnlyExport name tells file vault_tells old new = vault_tells → (other :
     ⊎ ((script : Form) × (bytes : List ℕ) × (clip : ClipIndex) × Works name tells file script bytes clip × IsInside script clip × (other ≡ script.export)
     × ((held : List ℕ) × (new other ≡ Some held) × IsPartial held script bytes clip))
 
+-- What `out` was to get: the usage line; the line that says why the session doesn't start; the lines of the insert and of the export, by how that ended; or both refusals.
+abbrev pub IsTranscript : (name : Option (List ℕ)) (tells rose : Type 0) (file : List ℕ → Option (List ℕ)) (text : List ℕ) → Type 0
+IsTranscript name tells rose file text =
+    ((name ≡ None) × (text ≡ usage_line))
+    ⊎ (((of : List ℕ) × (name ≡ Some of) × ((stop : Stop) × StopHasCause tells file of rose stop × (text ≡ stop_line stop)))
+    ⊎ ((script : Form) × (bytes : List ℕ) × (clip : ClipIndex) × Works name tells file script bytes clip
+    × ((IsInside script clip × ((ending : Ending) × (text ≡ export_lines script.len ending))) ⊎ ((length clip.packets < script.len) × (text ≡ refused_lines)))))
+
+-- Whatever the status, `out` got some front of that.
+abbrev pub SaysTranscript : (name : Option (List ℕ)) (tells rose : Type 0) (file : List ℕ → Option (List ℕ)) (out_tells : Type 0) (before after : List ℕ) → Type 0
+SaysTranscript name tells rose file out_tells before after = (text : List ℕ) × IsTranscript name tells rose file text × PutsFront out_tells before after text
+
 -- What a run did, by its status.
 pub record Runs (name : Option (List ℕ)) (tells rose : Type 0) (file : List ℕ → Option (List ℕ)) (vault_tells vault_rose : Type 0) (old new : List ℕ → Option (List ℕ))
     (out_tells out_rose : Type 0) (before after : List ℕ) (status : ℕ) : Type 0 where
@@ -55,3 +68,4 @@ pub record Runs (name : Option (List ℕ)) (tells rose : Type 0) (file : List �
   pub no_other : (status ≡ 0) ⊎ ((status ≡ 2) ⊎ ((status ≡ 3) ⊎ ((status ≡ 4) ⊎ (status ≡ 5))))
   pub usage : name ≡ None → (status ≡ 2) ⊎ (status ≡ 5)
   pub files : ChangesOnlyExport name tells file vault_tells old new
+  pub lines : SaysTranscript name tells rose file out_tells before after

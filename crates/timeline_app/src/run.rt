@@ -4,7 +4,7 @@ ghost use Rattle.std.specs.Prelude.{◌≡◌, ◌⊎◌, ◌==◌, ℕ, List, S
 ghost use Rattle.tl_ports.specs.Outside.{Rose};
 ghost use Rattle.timeline_app.specs.Lines.{usage_line};
 ghost use Rattle.timeline_app.specs.Run.{script_name, Says, Puts, StopsWith, stop_line, stop_status, status_after};
-ghost use Rattle.timeline_app.specs.Top.{Runs, Works, Played, Stopped, Unsunk, ChangesOnlyExport};
+ghost use Rattle.timeline_app.specs.Top.{Runs, Works, Played, Stopped, Unsunk, ChangesOnlyExport, SaysTranscript};
 ghost use Rattle.mkv_read.specs.declared.clip.ClipIndex.{ClipIndex};
 ghost use Rattle.timeline_app.specs.Script.{Form};
 
@@ -176,6 +176,7 @@ pub fn run_alone<T: Store, V: Vault, S: Sink, O: Sink>(
 
     // Whatever the status: what else changed.
     ensures files { ChangesOnlyExport (script_name (map string_bytes words.now)) T.tells (T.file store.old) V.tells (V.file vault.old) (V.file vault.new) }
+    ensures lines { SaysTranscript (script_name (map string_bytes words.now)) T.tells (Rose (T.faults store.old) (T.faults store.new)) (T.file store.old) O.tells (O.contents out.old) (O.contents out.new) }
     ensures idle { V.begun vault.new ≡ None }
     ensures store { (other : List ℕ) → T.file store.new other ≡ T.file store.old other }
     ensures screen { screen.new ≡ screen.old }

@@ -4,7 +4,8 @@ use Rattle.timeline_app.specs.Reading.{view}
 use Rattle.timeline_app.specs.Lines.{ok_line}
 use Rattle.timeline_app.specs.Run.{asked_lines, export_lines}
 use Rattle.timeline_app.proofs.Stops.{rose_later}
-use Rattle.timeline_app.proofs.Saying.{export_after, export_stopped}
+use Rattle.timeline_app.proofs.Saying.{export_after, export_stopped, front_of_first}
+use Rattle.timeline_app.specs.declared.export.Ending.TheVariants as endings
 use Rattle.timeline_app.proofs.play.play_export.Goals as goal
 
 pub returns-in-Ok-clause-plays : goal.returns-in-Ok-clause-plays
@@ -30,5 +31,6 @@ returns-in-Err-clause-plays g c =
     let new = c.say_made.new.out in
     rw c.fault_status.ensures
     (export_stopped V.tells (Rose (V.faults c.args.vault.now) (V.faults c.args.vault.now)) file file O.tells (Rose (O.faults old) (O.faults new)) (Rose (O.faults old) (O.faults new))
-    (O.contents old) (O.contents new) (O.contents new) (export_lines job.script.len) (view job.script) job.bytes.items job.index (ok_line job.script.len) c.in-Err.fault
-    (c.in-Err.ensures.said (ok_line job.script.len) c.ok_line.ensures) (λ rose. rose) (λ told. inl refl) (λ told other ne. refl))
+    (O.contents old) (O.contents old) (O.contents new) (export_lines job.script.len) (view job.script) job.bytes.items job.index (ok_line job.script.len) c.in-Err.fault
+    (c.in-Err.ensures.said (ok_line job.script.len) c.ok_line.ensures) (λ rose. rose) (λ told. inl refl) (λ told other ne. refl)
+    (endings.NoMemory, front_of_first O.tells (O.contents old) (O.contents new) (ok_line job.script.len) (asked_lines endings.NoMemory) (Rose (O.faults old) (O.faults new)) c.in-Err.fault (c.in-Err.ensures.said (ok_line job.script.len) c.ok_line.ensures)))
