@@ -1,0 +1,377 @@
+//! Writing bits and symbols. RFC 9043 sections 3.8.1.1 and 3.8.1.2.
+ghost use Rattle.std.specs.Prelude.{◌≡◌, ℕ, ◌+◌, ◌*◌, ◌/◌, ◌^◌, ◌<◌, ◌≤◌, if◌then◌else◌, IfOk, OnOk, OnErr, List, [], ◌∷◌, ◌++◌, true, false, length, replicate, slice_index, take, min, vec_len};
+ghost use Rattle.ffv1_range.specs.Transition.{IsTransition, IsKept, AllKept, next_state, moved};
+ghost use Rattle.ffv1_range.specs.Writing.{started, chosen, shifted, put, put_all, part, closed};
+ghost use Rattle.ffv1_range.specs.Symbol.{spelling, with_states, set_after, ones, low_bits};
+ghost use Rattle.ffv1_range.specs.Law.{IsSpelled};
+ghost use Rattle.ffv1_range.specs.Cursor.{number_of, writing_at, IsSound};
+
+use crate::states::States;
+use crate::transition::Transition;
+use std::alloc::{AllocError, Global};
+use std::marker::Model;
+
+// The most bits that a symbol has: one for 0, 32 of an exponent, 31 of a magnitude and a sign.
+const SYMBOL_BITS: usize = 65;
+
+/// Where a writer stands: the range, the kept low with its carry, and how many bytes were put.
+#[derive(Clone, Copy)]
+struct Cursor {
+    range: u32,
+    low: u32,
+    used: usize,
+}
+
+/// A writer of range-coded bits.
+#[derive(Drop)]
+pub struct RangeWriter<'a> {
+    table: &'a Transition,
+    bytes: Vec<u8>,
+    at: Cursor,
+}
+
+// Clauses see the table, the range, the one number that the bits narrow, and the count of its bytes.
+impl<'a> Model for RangeWriter<'a> {
+    ghost use Rattle.ffv1_range.specs.Writing.{Writing};
+    ghost use Rattle.ffv1_range.specs.Cursor.{writing_at, IsSound};
+
+    ghost Value = { Writing };
+
+    ghost view = { λ a. writing_at a.table.now a.bytes.items a.at };
+
+    ghost invariant = { λ a. IsSound a.bytes.items a.at };
+}
+
+impl<'a> RangeWriter<'a> {
+    /// A writer of no bits.
+    pub fn start(alloc: Global, table: &'a Transition) -> RangeWriter<'a>
+        ensures writing { result ≡ started table.now }
+        ensures sound { IsTransition table.now }
+        ensures fresh { AllKept table.now (replicate 32 128) }
+    {
+        let keeps_first = table.keeps(128);
+        prove!(keeps_first);
+        RangeWriter {
+            table,
+            bytes: Vec::new(alloc),
+            at: Cursor {
+                range: 0xFF00,
+                low: 0,
+                used: 0,
+            },
+        }
+    }
+
+    /// Writes one bit with a state, which moves by the table. It puts at most one byte. Want of memory leaves the writer and the
+    /// state as they were.
+    #[inline]
+    pub fn bit(&mut self, state: &mut u8, bit: bool) -> Result<(), AllocError>
+        requires { IsKept self.old.table state.old }
+        ensures ok { OnOk result (self.new ≡ put self.old state.old bit) }
+        ensures state { OnOk result (state.new ≡ next_state self.old.table state.old bit) }
+        ensures kept { IsKept self.new.table state.new }
+        ensures err { OnErr result ((self.new ≡ self.old) × (state.new ≡ state.old)) }
+    {
+        make_room(&mut self.bytes, self.at.used, 1)?;
+        self.at = write_bit(self.bytes.as_mut_slice(), self.at, *state, bit);
+        *state = self.table.next(*state, bit);
+        Ok(())
+    }
+
+    /// Writes a one-bit field: a bit with the first state of a set. Want of memory leaves the writer and the set as they were.
+    pub fn flag(&mut self, set: &mut States, bit: bool) -> Result<(), AllocError>
+        requires { AllKept self.old.table set.old }
+        ensures ok { OnOk result (self.new ≡ put_all self.old (with_states self.old.table set.old ((0, bit) ∷ []))) }
+        ensures set { OnOk result (set.new ≡ set_after self.old.table set.old ((0, bit) ∷ [])) }
+        ensures kept { AllKept self.new.table set.new }
+        ensures err { OnErr result ((self.new ≡ self.old) × (set.new ≡ set.old)) }
+    {
+        make_room(&mut self.bytes, self.at.used, 1)?;
+        let mut at = self.at;
+        bit_at(
+            self.table,
+            self.bytes.as_mut_slice(),
+            &mut at,
+            &mut set.states,
+            0,
+            bit,
+        );
+        self.at = at;
+        Ok(())
+    }
+
+    /// Writes a value's symbol with a set of states, a signed one with its sign. Want of memory leaves the writer and the set as
+    /// they were.
+    pub fn symbol(&mut self, set: &mut States, value: i64, signed: bool) -> Result<(), AllocError>
+        requires kept { AllKept self.old.table set.old }
+        requires spelled { IsSpelled value signed }
+        ensures ok { OnOk result (self.new ≡ put_all self.old (with_states self.old.table set.old (spelling value signed))) }
+        ensures set { OnOk result (set.new ≡ set_after self.old.table set.old (spelling value signed)) }
+        ensures kept { AllKept self.new.table set.new }
+        ensures err { OnErr result ((self.new ≡ self.old) × (set.new ≡ set.old)) }
+    {
+        make_room(&mut self.bytes, self.at.used, SYMBOL_BITS)?;
+        let mut at = self.at;
+        symbol_into(
+            self.table,
+            self.bytes.as_mut_slice(),
+            &mut at,
+            &mut set.states,
+            value,
+            signed,
+        );
+        self.at = at;
+        Ok(())
+    }
+
+    /// The bytes of what was written, after a closing bit 0 with state 129 where there is to be one.
+    pub fn finish(self, sentinel: bool) -> Result<Vec<u8>, AllocError>
+        ensures { IfOk result (λ bytes. bytes.items ≡ part (if sentinel then closed self.entry else self.entry)) }
+    {
+        let RangeWriter {
+            table: _,
+            mut bytes,
+            mut at,
+        } = self;
+        make_room(&mut bytes, at.used, 2)?;
+        if sentinel {
+            at = write_bit(bytes.as_mut_slice(), at, 129, false);
+        }
+        end(bytes.as_mut_slice(), at);
+        bytes.truncate(at.used + 1);
+        Ok(bytes)
+    }
+}
+
+// Sees to it that more bytes can be put behind those that are used. The buffer grows by half of its length.
+#[inline]
+fn make_room(bytes: &mut Vec<u8>, used: usize, more: usize) -> Result<(), AllocError>
+    requires used { used ≤ vec_len bytes.old }
+    requires more { more ≤ SYMBOL_BITS }
+    ensures room { OnOk result (used + more ≤ vec_len bytes.new) }
+    ensures longer { vec_len bytes.old ≤ vec_len bytes.new }
+    ensures same { take used bytes.new.items ≡ take used bytes.old.items }
+{
+    let len = bytes.len();
+    if len - used < more {
+        bytes.resize(len + len / 2 + SYMBOL_BITS, 0)?;
+    }
+    Ok(())
+}
+
+// Adds one to a number of many bytes: a carry into its last byte, and through each byte FF.
+fn add_one(bytes: &mut [u8])
+    requires { number_of bytes.old + 1 < 256 ^ length bytes.old }
+    ensures { number_of bytes.new ≡ number_of bytes.old + 1 }
+{
+    for back in 0..bytes.len() {
+        let place = bytes.len() - 1 - back;
+        if bytes[place] < 255 {
+            bytes[place] += 1;
+            return;
+        }
+        bytes[place] = 0;
+    }
+}
+
+// Puts the high byte of a kept low, with its carry, behind the used bytes.
+#[inline(always)]
+fn put_byte(bytes: &mut [u8], used: usize, low: u32)
+    requires room { used < length bytes.old }
+    requires low { low < 2 ^ 17 }
+    requires carry { 65536 * number_of (take used bytes.old) + low < 65536 * 256 ^ used }
+    ensures { number_of (take (used + 1) bytes.new) ≡ 256 * number_of (take used bytes.old) + low / 256 }
+{
+    if low >= 0x1_0000 {
+        add_one(&mut bytes[..used]);
+    }
+    bytes[used] = (low / 256 % 256) as u8;
+}
+
+// One more byte where the range has fallen below 256.
+#[inline(always)]
+fn shift(bytes: &mut [u8], at: Cursor) -> Cursor
+    requires room { at.used < length bytes.old }
+    requires range { 0 < at.range }
+    requires narrow { at.range ≤ 0xFF00 }
+    requires kept { at.low + at.range ≤ 2 * 0xFF00 }
+    requires within { 65536 * number_of (take at.used bytes.old) + at.low + at.range ≤ 0xFF00 * 256 ^ at.used }
+    ensures at { (table : List ℕ) → writing_at table bytes.new result ≡ shifted (writing_at table bytes.old at) }
+    ensures sound { IsSound bytes.new result }
+    ensures used { result.used ≤ at.used + 1 }
+{
+    if at.range < 256 {
+        put_byte(bytes, at.used, at.low);
+        Cursor {
+            range: 256 * at.range,
+            low: 256 * (at.low % 256),
+            used: at.used + 1,
+        }
+    } else {
+        at
+    }
+}
+
+// Writes one bit with a state.
+#[inline(always)]
+fn write_bit(bytes: &mut [u8], at: Cursor, state: u8, bit: bool) -> Cursor
+    requires sound { IsSound bytes.old at }
+    requires room { at.used < length bytes.old }
+    requires state { 0 < state }
+    ensures at { (table : List ℕ) → writing_at table bytes.new result ≡ put (writing_at table bytes.old at) state bit }
+    ensures sound { IsSound bytes.new result }
+    ensures used { result.used ≤ at.used + 1 }
+{
+    let one = at.range * u32::from(state) / 256;
+    let zero = at.range - one;
+    let chosen = if bit {
+        Cursor {
+            range: one,
+            low: at.low + zero,
+            used: at.used,
+        }
+    } else {
+        Cursor {
+            range: zero,
+            low: at.low,
+            used: at.used,
+        }
+    };
+    shift(bytes, chosen)
+}
+
+// Puts the last byte, rounded up.
+fn end(bytes: &mut [u8], at: Cursor)
+    requires sound { IsSound bytes.old at }
+    requires room { at.used < length bytes.old }
+    ensures { (table : List ℕ) → take (at.used + 1) bytes.new ≡ part (writing_at table bytes.old at) }
+{
+    put_byte(bytes, at.used, at.low + 255);
+}
+
+// Writes the bit of a place in a set.
+#[inline(always)]
+fn bit_at(
+    table: &Transition,
+    bytes: &mut [u8],
+    at: &mut Cursor,
+    states: &mut [u8; 32],
+    place: usize,
+    bit: bool,
+)
+    requires place { place < 32 }
+    requires sound { IsSound bytes.old at.old }
+    requires room { at.old.used < length bytes.old }
+    requires kept { AllKept table.now states.old }
+    ensures at { writing_at table.now bytes.new at.new ≡ put (writing_at table.now bytes.old at.old) (slice_index states.old place) bit }
+    ensures states { states.new ≡ moved table.now states.old place bit }
+    ensures sound { IsSound bytes.new at.new }
+    ensures used { at.new.used ≤ at.old.used + 1 }
+    ensures kept { AllKept table.now states.new }
+{
+    let state = states[place];
+    *at = write_bit(bytes, *at, state, bit);
+    states[place] = table.next(state, bit);
+}
+
+// Writes a value's symbol.
+#[inline(always)]
+fn symbol_into(
+    table: &Transition,
+    bytes: &mut [u8],
+    at: &mut Cursor,
+    states: &mut [u8; 32],
+    value: i64,
+    signed: bool,
+)
+    requires spelled { IsSpelled value signed }
+    requires sound { IsSound bytes.old at.old }
+    requires room { at.old.used + SYMBOL_BITS ≤ length bytes.old }
+    requires kept { AllKept table.now states.old }
+    ensures at { writing_at table.now bytes.new at.new ≡ put_all (writing_at table.now bytes.old at.old) (with_states table.now states.old (spelling value signed)) }
+    ensures states { states.new ≡ set_after table.now states.old (spelling value signed) }
+    ensures sound { IsSound bytes.new at.new }
+    ensures kept { AllKept table.now states.new }
+{
+    let magnitude = value.unsigned_abs() as u32;
+    bit_at(table, bytes, at, states, 0, magnitude == 0);
+    if magnitude > 0 {
+        let exponent = magnitude.ilog2();
+        exponent_into(table, bytes, at, states, exponent);
+        low_bits_into(table, bytes, at, states, exponent, magnitude);
+        if signed {
+            bit_at(
+                table,
+                bytes,
+                at,
+                states,
+                11 + exponent.min(10) as usize,
+                value < 0,
+            );
+        }
+    }
+}
+
+// Writes an exponent: so many ones, and a zero.
+#[inline(always)]
+fn exponent_into(
+    table: &Transition,
+    bytes: &mut [u8],
+    at: &mut Cursor,
+    states: &mut [u8; 32],
+    exponent: u32,
+)
+    requires exponent { exponent < 32 }
+    requires sound { IsSound bytes.old at.old }
+    requires room { at.old.used + exponent < length bytes.old }
+    requires kept { AllKept table.now states.old }
+    ensures at { writing_at table.now bytes.new at.new ≡ put_all (writing_at table.now bytes.old at.old) (with_states table.now states.old (ones 0 exponent ++ (1 + min exponent 9, false) ∷ [])) }
+    ensures states { states.new ≡ set_after table.now states.old (ones 0 exponent ++ (1 + min exponent 9, false) ∷ []) }
+    ensures sound { IsSound bytes.new at.new }
+    ensures used { at.new.used ≤ at.old.used + exponent + 1 }
+    ensures kept { AllKept table.now states.new }
+{
+    for i in 0..exponent as usize {
+        bit_at(table, bytes, at, states, 1 + i.min(9), true);
+    }
+    bit_at(
+        table,
+        bytes,
+        at,
+        states,
+        1 + exponent.min(9) as usize,
+        false,
+    );
+}
+
+// Writes the bits below the highest 1 of a magnitude.
+#[inline(always)]
+fn low_bits_into(
+    table: &Transition,
+    bytes: &mut [u8],
+    at: &mut Cursor,
+    states: &mut [u8; 32],
+    exponent: u32,
+    magnitude: u32,
+)
+    requires exponent { exponent < 32 }
+    requires sound { IsSound bytes.old at.old }
+    requires room { at.old.used + exponent ≤ length bytes.old }
+    requires kept { AllKept table.now states.old }
+    ensures at { writing_at table.now bytes.new at.new ≡ put_all (writing_at table.now bytes.old at.old) (with_states table.now states.old (low_bits exponent magnitude)) }
+    ensures states { states.new ≡ set_after table.now states.old (low_bits exponent magnitude) }
+    ensures sound { IsSound bytes.new at.new }
+    ensures used { at.new.used ≤ at.old.used + exponent }
+    ensures kept { AllKept table.now states.new }
+{
+    for i in (0..exponent).rev() {
+        bit_at(
+            table,
+            bytes,
+            at,
+            states,
+            22 + i.min(9) as usize,
+            magnitude >> i & 1 == 1,
+        );
+    }
+}

@@ -1,0 +1,5 @@
+//! Small arithmetic.
+#![tactic(auto)]
+
+/// Nothing yet.
+pub fn nothing() {}
