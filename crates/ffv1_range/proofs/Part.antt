@@ -21,7 +21,7 @@ first_bytes-cons (suc k) b bytes =
     rw pow-suc (omega (arith, before))
 
 -- the lowest byte of the high part, and what is below it
-mod-next : (n m : ℕ) → 0 < m → n % (256 * m) ≡ (n / m % 256) * m + n % m
+pub mod-next : (n m : ℕ) → 0 < m → n % (256 * m) ≡ (n / m % 256) * m + n % m
 mod-next n m some =
     let whole : m * (n / m) + n % m ≡ n = div-add-mod n m in
     let high : 256 * (n / m / 256) + n / m % 256 ≡ n / m = div-add-mod (n / m) 256 in
@@ -30,7 +30,7 @@ mod-next n m some =
     let low : (n / m % 256) * m + n % m < 256 * m = omega (arith, mul-add-lt (n / m % 256) m (n % m) 256 (mod_below (n / m) 256 (omega arith)) (mod_below n m some)) in
     ap (λ x. x % (256 * m)) e ∙ add-mul-mod_self_left ((n / m % 256) * m + n % m) (256 * m) (n / m / 256) ∙ mod-eq_of_lt low
 
-byte_at-is : (k n : ℕ) → byte_at k n ≡ n / 256 ^ k % 256
+pub byte_at-is : (k n : ℕ) → byte_at k n ≡ n / 256 ^ k % 256
 byte_at-is zero n = omega arith
 byte_at-is (suc k) n = refl
 
@@ -74,8 +74,9 @@ shifted-bounded : (w : Writing) → IsBounded w → IsBounded (shifted w)
 unfolding shifted
 shifted-bounded w h =
     elim (cases_lt w.range 256) [
-      inl less ↦ rw (lt-ltb _ _ less) (record { counted = omega (arith, h.counted); bound = omega (arith, h.bound, pow_next w.count h.counted) })
-    | inr more ↦ rw (le-ltb _ _ more) h ]
+      | inl less ↦ rw (lt-ltb _ _ less) (record { counted = omega (arith, h.counted); bound = omega (arith, h.bound, pow_next w.count h.counted) })
+      | inr more ↦ rw (le-ltb _ _ more) h
+    ]
 
 pub put-bounded : (w : Writing) (state : ℕ) (bit : Bool) → 256 ≤ w.range → 0 < state → state < 256 → IsBounded w → IsBounded (put w state bit)
 unfolding put
@@ -103,7 +104,7 @@ first_bytes-part w more h =
     let counted : w.count ≡ k + 1 = omega (arith, h.bounded.counted) in
     let small : n < 256 ^ k = div_below (w.low + 255) 256 (256 ^ k) (omega arith) (omega (arith, h.bounded.bound, h.wide)) in
     let last : slice_index (bytes ++ more) k ≡ slice_index more 0 =
-        get_or-append_right bytes more k 0 (omega (arith, length-bytes k n)) ∙ ap (slice_index more) (omega (arith, length-bytes k n)) in
+    get_or-append_right bytes more k 0 (omega (arith, length-bytes k n)) ∙ ap (slice_index more) (omega (arith, length-bytes k n)) in
     let number : first_bytes k (bytes ++ more) ≡ n = first_bytes-bytes k n more ∙ mod-eq_of_lt small in
     ap (λ j. first_bytes j (bytes ++ more)) counted ∙ first_bytes-next k (bytes ++ more) ∙ rw (number, last) refl
 
@@ -150,16 +151,17 @@ closed_within w bytes fits wide from below =
     let next = first_bytes-next w.count bytes in
     let small = fits w.count in
     elim (cases_lt (zero_part w.range 129) 256) [
-      inl less ↦
-        let shifts = lt-ltb _ _ less in
-        let from_there : 256 * w.low ≤ first_bytes (w.count + 1) bytes = rw shifts at from in
-        let below_there : first_bytes (w.count + 1) bytes ≤ 256 * w.low + 510 = rw shifts at below in
-        record { from = omega arith; below = omega arith }
-    | inr more ↦
-        let stays = le-ltb _ _ more in
-        let from_there : w.low ≤ first_bytes w.count bytes = rw stays at from in
-        let below_there : first_bytes w.count bytes ≤ w.low + 510 = rw stays at below in
-        record { from = omega arith; below = omega arith } ]
+      | inl less ↦
+          let shifts = lt-ltb _ _ less in
+          let from_there : 256 * w.low ≤ first_bytes (w.count + 1) bytes = rw shifts at from in
+          let below_there : first_bytes (w.count + 1) bytes ≤ 256 * w.low + 510 = rw shifts at below in
+          record { from = omega arith; below = omega arith }
+      | inr more ↦
+          let stays = le-ltb _ _ more in
+          let from_there : w.low ≤ first_bytes w.count bytes = rw stays at from in
+          let below_there : first_bytes w.count bytes ≤ w.low + 510 = rw stays at below in
+          record { from = omega arith; below = omega arith }
+    ]
 
 -- Reading the closing bit takes as many bytes, whichever bit it gives.
 pub closed_taken : (w : Writing) (bytes : List ℕ) (p : Reading) → IsBytes bytes → 256 ≤ w.range → (closed w).low ≤ first_bytes (closed w).count bytes → first_bytes (closed w).count bytes ≤ (closed w).low + 510 → Tracks bytes p w → (after_bit p 129).taken ≡ min (closed w).count (2 ^ 64 - 1)
@@ -170,19 +172,21 @@ closed_taken w bytes p fits wide from below h =
     let e = ap (λ r. zero_part r 129) h.range in
     let f = ap (λ r. one_part r 129) h.range in
     elim (cases_lt (zero_part w.range 129) 256) [
-      inl less ↦
-        let shifts = lt-ltb _ _ less in
-        let below_there : first_bytes (w.count + 1) bytes ≤ 256 * w.low + 510 = rw shifts at below in
-        let reads_zero : leb (zero_part p.range 129) p.low ≡ false = lt-leb _ _ (omega (arith, h.low, h.range)) in
-        let again : ltb (zero_part p.range 129) 256 ≡ true = lt-ltb _ _ (omega (arith, e)) in
-        rw (shifts, reads_zero, again) (omega (arith, h.taken))
-    | inr more ↦
-        let stays = le-ltb _ _ more in
-        let zero_stays : ltb (zero_part p.range 129) 256 ≡ false = le-ltb _ _ (omega (arith, e)) in
-        let one_stays : ltb (one_part p.range 129) 256 ≡ false = le-ltb _ _ (omega (arith, f)) in
-        rw stays (elim (cases_Bool (leb (zero_part p.range 129) p.low)) [
-          inl reads_one ↦ rw (reads_one, one_stays) h.taken
-        | inr reads_zero ↦ rw (reads_zero, zero_stays) h.taken ]) ]
+      | inl less ↦
+          let shifts = lt-ltb _ _ less in
+          let below_there : first_bytes (w.count + 1) bytes ≤ 256 * w.low + 510 = rw shifts at below in
+          let reads_zero : leb (zero_part p.range 129) p.low ≡ false = lt-leb _ _ (omega (arith, h.low, h.range)) in
+          let again : ltb (zero_part p.range 129) 256 ≡ true = lt-ltb _ _ (omega (arith, e)) in
+          rw (shifts, reads_zero, again) (omega (arith, h.taken))
+      | inr more ↦
+          let stays = le-ltb _ _ more in
+          let zero_stays : ltb (zero_part p.range 129) 256 ≡ false = le-ltb _ _ (omega (arith, e)) in
+          let one_stays : ltb (one_part p.range 129) 256 ≡ false = le-ltb _ _ (omega (arith, f)) in
+          rw stays (elim (cases_Bool (leb (zero_part p.range 129) p.low)) [
+            | inl reads_one ↦ rw (reads_one, one_stays) h.taken
+            | inr reads_zero ↦ rw (reads_zero, zero_stays) h.taken
+          ])
+    ]
 
 pub reads_closed : ReadsClosedParts
 reads_closed table coded more states fits_more =
@@ -199,4 +203,5 @@ reads_closed table coded more states fits_more =
     record {
       before = record { bits = read.bits; taken = read.after.taken };
       taken = ap (λ (p : Reading). p.taken) (after_bits-last (opened table bytes) (states_of coded) 129)
-        ∙ closed_taken w bytes (after_bits (opened table bytes) (states_of coded)) fits made.wide from below read.after }
+          ∙ closed_taken w bytes (after_bits (opened table bytes) (states_of coded)) fits made.wide from below read.after;
+    }

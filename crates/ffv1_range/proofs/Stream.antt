@@ -36,9 +36,10 @@ IsBytes bytes = (k : ℕ) → slice_index bytes k < 256
 
 -- both parts of a range have something
 pub one_part_lt : (range state : ℕ) → 256 ≤ range → 0 < state → state < 256 → (0 < one_part range state) × (one_part range state < range)
-one_part_lt range state wide some small =
-    (le-div 1 (range * state) 256 (omega arith) (omega (arith, mul-le-mul_left range some)),
-    div_below (range * state) 256 range (omega arith) (grind arith))
+one_part_lt range state wide some small = (
+  le-div 1 (range * state) 256 (omega arith) (omega (arith, mul-le-mul_left range some)),
+  div_below (range * state) 256 range (omega arith) (grind arith),
+)
 
 pub within_shifted : (bytes : List ℕ) (w : Writing) → IsBytes bytes → IsWithin bytes (shifted w) → IsWithin bytes w
 unfolding shifted
@@ -79,18 +80,20 @@ tracks_shifted bytes p w h =
     let next = first_bytes-next w.count bytes in
     let byte : slice_index p.rest 0 ≡ slice_index bytes w.count = rw h.rest (get_or-drop w.count bytes 0 0 ∙ ap (λ n. slice_index bytes n) (omega arith)) in
     elim (cases_lt w.range 256) [
-      inl less ↦
-        let lt_w : ltb w.range 256 ≡ true = lt-ltb _ _ less in
-        let lt_p : ltb p.range 256 ≡ true = rw h.range lt_w in
-        rw (lt_w, lt_p) (record {
-          range = ap (λ n. 256 * n) h.range;
-          low = omega (arith, h.low, next, byte);
-          rest = rw h.rest (drop_next bytes w.count);
-          taken = omega (arith, h.taken) })
-    | inr more ↦
-        let lt_w : ltb w.range 256 ≡ false = le-ltb _ _ more in
-        let lt_p : ltb p.range 256 ≡ false = rw h.range lt_w in
-        rw (lt_w, lt_p) h ]
+      | inl less ↦
+          let lt_w : ltb w.range 256 ≡ true = lt-ltb _ _ less in
+          let lt_p : ltb p.range 256 ≡ true = rw h.range lt_w in
+          rw (lt_w, lt_p) (record {
+            range = ap (λ n. 256 * n) h.range;
+            low = omega (arith, h.low, next, byte);
+            rest = rw h.rest (drop_next bytes w.count);
+            taken = omega (arith, h.taken);
+          })
+      | inr more ↦
+          let lt_w : ltb w.range 256 ≡ false = le-ltb _ _ more in
+          let lt_p : ltb p.range 256 ≡ false = rw h.range lt_w in
+          rw (lt_w, lt_p) h
+    ]
 
 -- a range is wide again after each bit
 pub put-wide : (w : Writing) (state : ℕ) (bit : Bool) → 256 ≤ w.range → 0 < state → state < 256 → 256 ≤ (put w state bit).range

@@ -13,12 +13,12 @@ abbrev pub exponent_of : ℕ → ℕ
 exponent_of magnitude = 31 - leading_zeros w32 magnitude
 
 -- n bits 1 of an exponent, from its bit i on
-abbrev pub ones : ℕ → ℕ → List (ℕ × Bool)
+unfoldable pub ones : ℕ → ℕ → List (ℕ × Bool)
 ones i zero = []
 ones i (suc n) = (1 + min i 9, true) ∷ ones (i + 1) n
 
 -- the lowest n bits of a magnitude, the highest of them first
-abbrev pub low_bits : ℕ → ℕ → List (ℕ × Bool)
+unfoldable pub low_bits : ℕ → ℕ → List (ℕ × Bool)
 low_bits zero magnitude = []
 low_bits (suc i) magnitude = (22 + min i 9, bit_at magnitude i == 1) ∷ low_bits i magnitude
 
@@ -66,7 +66,7 @@ set_after table set (bit ∷ bits) = set_after table (moved table set bit.0 bit.
 
 -- What is read as a symbol, as a computation: a value, or none where it is too long, and what is left.
 -- So many ones stand before the first zero of an exponent from its bit i on, of at most `left`.
-abbrev pub exponent_at : ℕ → ℕ → Source → Option ℕ × Source
+unfoldable pub exponent_at : ℕ → ℕ → Source → Option ℕ × Source
 exponent_at zero i s = (None, s)
 exponent_at (suc left) i s =
     if bit_at_place s (1 + min i 9)
@@ -74,7 +74,7 @@ exponent_at (suc left) i s =
     else (Some i, after_place s (1 + min i 9))
 
 -- n more bits below the number a
-abbrev pub magnitude_at : ℕ → ℕ → Source → ℕ × Source
+unfoldable pub magnitude_at : ℕ → ℕ → Source → ℕ × Source
 magnitude_at zero a s = (a, s)
 magnitude_at (suc i) a s = magnitude_at i (2 * a + (if bit_at_place s (22 + min i 9) then 1 else 0)) (after_place s (22 + min i 9))
 

@@ -1,5 +1,5 @@
 //! Reading bits and symbols. RFC 9043 sections 3.8.1.1 and 3.8.1.2.
-ghost use Rattle.std.specs.Prelude.{◌≡◌, ℕ, ◌<◌, ◌≤◌, IfSome, IfOk, OnErr, List, replicate, slice_index};
+ghost use Rattle.std.specs.Prelude.{◌≡◌, ℕ, ◌<◌, ◌≤◌, IfSome, IfOk, OnErr, List, length, replicate, slice_index};
 ghost use Rattle.std.specs.Result.{result_ok};
 ghost use Rattle.ffv1_range.specs.Transition.{IsTransition, IsKept, AllKept, next_state};
 ghost use Rattle.ffv1_range.specs.Reading.{opened, bit_of, renewed, after_bit};
@@ -48,11 +48,12 @@ impl<'a> Model for RangeReader<'a> {
 
     ghost view = { λ a. reading_at a.table.now a.bytes.now a.at };
 
-    ghost invariant = { λ a. IsSound a.at };
+    ghost invariant = { λ a. IsSound a.bytes.now a.at };
 }
 
 impl<'a> RangeReader<'a> {
     /// A reader at the start of a piece. Where its first two bytes are FF 00 or more, all later bytes count as 0.
+    #[tactic(auto, unfolding(crate::specs::Reading::opened))]
     pub fn over(bytes: &'a [u8], table: &'a Transition) -> RangeReader<'a>
         ensures reading { result ≡ opened table.now bytes.now }
         ensures sound { IsTransition table.now }
@@ -61,10 +62,10 @@ impl<'a> RangeReader<'a> {
         let keeps_first = table.keeps(128);
         prove!(keeps_first);
         let first = 256 * byte_at(bytes, 0) + byte_at(bytes, 1);
-        let open = first < 0xFF00;
+        let goes_on = first < 0xFF00;
         RangeReader {
             table,
-            bytes: if open { bytes } else { &bytes[..0] },
+            bytes: if goes_on { bytes } else { &bytes[..0] },
             at: Position {
                 range: 0xFF00,
                 low: first.min(0xFF00),
@@ -96,6 +97,7 @@ impl<'a> RangeReader<'a> {
     }
 
     /// Reads a one-bit field: a bit with the first state of a set.
+    #[tactic(auto, unfolding(crate::specs::Symbol::bit_at_place, crate::specs::Symbol::after_place))]
     pub fn flag(&mut self, set: &mut States) -> bool
         requires { AllKept self.old.table set.old }
         ensures bit { result ≡ bit_at_place (source self.old set.old) 0 }
@@ -139,12 +141,14 @@ fn byte_at(bytes: &[u8], place: usize) -> u32
 
 // One more byte where the range has fallen below 256.
 #[inline(always)]
+#[tactic(auto, unfolding(crate::specs::Reading::renewed))]
 fn renew(bytes: &[u8], at: Position) -> Position
     requires range { 0 < at.range }
     requires narrow { at.range ≤ 0xFF00 }
     requires within { at.low ≤ at.range }
+    requires ended { at.low ≡ at.range → length bytes.now ≤ at.taken }
     ensures at { (table : List ℕ) → reading_at table bytes.now result ≡ renewed (reading_at table bytes.now at) }
-    ensures sound { IsSound result }
+    ensures sound { IsSound bytes.now result }
 {
     if at.range < 256 {
         Position {
@@ -159,40 +163,46 @@ fn renew(bytes: &[u8], at: Position) -> Position
 
 // Reads one bit with a state.
 #[inline(always)]
+#[tactic(auto, unfolding(crate::specs::Reading::bit_of, crate::specs::Reading::narrowed, crate::specs::Reading::after_bit), using(crate::proofs::Stream::one_part_lt))]
 fn read_bit(table: &Transition, bytes: &[u8], at: Position, state: u8) -> BitRead
-    requires sound { IsSound at }
+    requires sound { IsSound bytes.now at }
     requires kept { IsKept table.now state }
     ensures bit { result.bit ≡ bit_of (reading_at table.now bytes.now at) state }
     ensures state { result.state ≡ next_state table.now state result.bit }
     ensures kept { IsKept table.now result.state }
     ensures at { reading_at table.now bytes.now result.at ≡ after_bit (reading_at table.now bytes.now at) state }
-    ensures sound { IsSound result.at }
+    ensures sound { IsSound bytes.now result.at }
 {
     let one = at.range * u32::from(state) / 256;
     let zero = at.range - one;
-    let bit = at.low >= zero;
-    let narrow = if bit {
-        Position {
-            range: one,
-            low: at.low - zero,
-            taken: at.taken,
-        }
-    } else {
-        Position {
+    if at.low < zero {
+        let narrow = Position {
             range: zero,
             low: at.low,
             taken: at.taken,
+        };
+        BitRead {
+            bit: false,
+            state: table.next(state, false),
+            at: renew(bytes, narrow),
         }
-    };
-    BitRead {
-        bit,
-        state: table.next(state, bit),
-        at: renew(bytes, narrow),
+    } else {
+        let narrow = Position {
+            range: one,
+            low: at.low - zero,
+            taken: at.taken,
+        };
+        BitRead {
+            bit: true,
+            state: table.next(state, true),
+            at: renew(bytes, narrow),
+        }
     }
 }
 
 // Reads the bit of a place in a set.
 #[inline(always)]
+#[tactic(auto, unfolding(crate::specs::Symbol::bit_at_place, crate::specs::Symbol::after_place))]
 fn bit_at(
     table: &Transition,
     bytes: &[u8],
@@ -201,11 +211,11 @@ fn bit_at(
     place: usize,
 ) -> bool
     requires place { place < 32 }
-    requires sound { IsSound at.old }
+    requires sound { IsSound bytes.now at.old }
     requires kept { AllKept table.now states.old }
     ensures bit { result ≡ bit_at_place (source_at table.now bytes.now at.old states.old) place }
     ensures after { source_at table.now bytes.now at.new states.new ≡ after_place (source_at table.now bytes.now at.old states.old) place }
-    ensures sound { IsSound at.new }
+    ensures sound { IsSound bytes.now at.new }
     ensures kept { AllKept table.now states.new }
 {
     let read = read_bit(table, bytes, *at, states[place]);
@@ -222,14 +232,14 @@ fn exponent_from(
     at: &mut Position,
     states: &mut [u8; 32],
 ) -> Option<u32>
-    requires sound { IsSound at.old }
+    requires sound { IsSound bytes.now at.old }
     requires kept { AllKept table.now states.old }
     ensures exponent { exponent_at 32 0 (source_at table.now bytes.now at.old states.old) ≡ (result, source_at table.now bytes.now at.new states.new) }
     ensures small { IfSome result (λ exponent. exponent < 32) }
-    ensures sound { IsSound at.new }
+    ensures sound { IsSound bytes.now at.new }
     ensures kept { AllKept table.now states.new }
 {
-    for i in 0..32 {
+    for i in 0..32usize {
         if !bit_at(table, bytes, at, states, 1 + i.min(9)) {
             return Some(i as u32);
         }
@@ -247,10 +257,10 @@ fn magnitude_from(
     exponent: u32,
 ) -> u32
     requires exponent { exponent < 32 }
-    requires sound { IsSound at.old }
+    requires sound { IsSound bytes.now at.old }
     requires kept { AllKept table.now states.old }
     ensures magnitude { magnitude_at exponent 1 (source_at table.now bytes.now at.old states.old) ≡ (result, source_at table.now bytes.now at.new states.new) }
-    ensures sound { IsSound at.new }
+    ensures sound { IsSound bytes.now at.new }
     ensures kept { AllKept table.now states.new }
 {
     let mut magnitude = 1;
@@ -263,6 +273,7 @@ fn magnitude_from(
 
 // Reads a symbol, or none where it is too long.
 #[inline(always)]
+#[tactic(auto, unfolding(crate::specs::Symbol::symbol_at))]
 fn symbol_from(
     table: &Transition,
     bytes: &[u8],
@@ -270,10 +281,10 @@ fn symbol_from(
     states: &mut [u8; 32],
     signed: bool,
 ) -> Option<i64>
-    requires sound { IsSound at.old }
+    requires sound { IsSound bytes.now at.old }
     requires kept { AllKept table.now states.old }
     ensures symbol { symbol_at (source_at table.now bytes.now at.old states.old) signed ≡ (result, source_at table.now bytes.now at.new states.new) }
-    ensures sound { IsSound at.new }
+    ensures sound { IsSound bytes.now at.new }
     ensures kept { AllKept table.now states.new }
 {
     if bit_at(table, bytes, at, states, 0) {

@@ -89,6 +89,7 @@ impl Transition {
         requires { IsKept self.now state }
         ensures next { result ≡ next_state self.now state bit }
         ensures kept { IsKept self.now result }
+        ensures positive { 0 < state }
     {
         if bit {
             self.one[state as usize]

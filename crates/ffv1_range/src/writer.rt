@@ -44,6 +44,7 @@ impl<'a> Model for RangeWriter<'a> {
 
 impl<'a> RangeWriter<'a> {
     /// A writer of no bits.
+    #[tactic(auto, unfolding(crate::specs::Writing::started))]
     pub fn start(alloc: Global, table: &'a Transition) -> RangeWriter<'a>
         ensures writing { result ≡ started table.now }
         ensures sound { IsTransition table.now }
@@ -73,8 +74,9 @@ impl<'a> RangeWriter<'a> {
         ensures err { OnErr result ((self.new ≡ self.old) × (state.new ≡ state.old)) }
     {
         make_room(&mut self.bytes, self.at.used, 1)?;
+        let next = self.table.next(*state, bit);
         self.at = write_bit(self.bytes.as_mut_slice(), self.at, *state, bit);
-        *state = self.table.next(*state, bit);
+        *state = next;
         Ok(())
     }
 
@@ -131,12 +133,10 @@ impl<'a> RangeWriter<'a> {
         let RangeWriter {
             table: _,
             mut bytes,
-            mut at,
+            at,
         } = self;
         make_room(&mut bytes, at.used, 2)?;
-        if sentinel {
-            at = write_bit(bytes.as_mut_slice(), at, 129, false);
-        }
+        let at = close(bytes.as_mut_slice(), at, sentinel);
         end(bytes.as_mut_slice(), at);
         bytes.truncate(at.used + 1);
         Ok(bytes)
@@ -190,6 +190,7 @@ fn put_byte(bytes: &mut [u8], used: usize, low: u32)
 
 // One more byte where the range has fallen below 256.
 #[inline(always)]
+#[tactic(auto, unfolding(crate::specs::Writing::shifted))]
 fn shift(bytes: &mut [u8], at: Cursor) -> Cursor
     requires room { at.used < length bytes.old }
     requires range { 0 < at.range }
@@ -214,6 +215,7 @@ fn shift(bytes: &mut [u8], at: Cursor) -> Cursor
 
 // Writes one bit with a state.
 #[inline(always)]
+#[tactic(auto, unfolding(crate::specs::Writing::put, crate::specs::Writing::chosen), using(crate::proofs::Stream::one_part_lt))]
 fn write_bit(bytes: &mut [u8], at: Cursor, state: u8, bit: bool) -> Cursor
     requires sound { IsSound bytes.old at }
     requires room { at.used < length bytes.old }
@@ -224,20 +226,37 @@ fn write_bit(bytes: &mut [u8], at: Cursor, state: u8, bit: bool) -> Cursor
 {
     let one = at.range * u32::from(state) / 256;
     let zero = at.range - one;
-    let chosen = if bit {
-        Cursor {
+    if bit {
+        let above = Cursor {
             range: one,
             low: at.low + zero,
             used: at.used,
-        }
+        };
+        shift(bytes, above)
     } else {
-        Cursor {
+        let below = Cursor {
             range: zero,
             low: at.low,
             used: at.used,
-        }
-    };
-    shift(bytes, chosen)
+        };
+        shift(bytes, below)
+    }
+}
+
+// Writes the closing bit, where there is to be one.
+#[tactic(auto, unfolding(crate::specs::Writing::closed))]
+fn close(bytes: &mut [u8], at: Cursor, sentinel: bool) -> Cursor
+    requires sound { IsSound bytes.old at }
+    requires room { at.used < length bytes.old }
+    ensures at { (table : List ℕ) → writing_at table bytes.new result ≡ (if sentinel then closed (writing_at table bytes.old at) else writing_at table bytes.old at) }
+    ensures sound { IsSound bytes.new result }
+    ensures used { result.used ≤ at.used + 1 }
+{
+    if sentinel {
+        write_bit(bytes, at, 129, false)
+    } else {
+        at
+    }
 }
 
 // Puts the last byte, rounded up.
@@ -270,8 +289,8 @@ fn bit_at(
     ensures kept { AllKept table.now states.new }
 {
     let state = states[place];
-    *at = write_bit(bytes, *at, state, bit);
     states[place] = table.next(state, bit);
+    *at = write_bit(bytes, *at, state, bit);
 }
 
 // Writes a value's symbol.

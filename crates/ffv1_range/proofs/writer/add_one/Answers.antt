@@ -1,0 +1,21 @@
+use Rattle.std.proofs.Common.{◌≡◌, ◌+◌, ◌-◌, length, get_or, arith}
+use Rattle.ffv1_range.proofs.Numbers.{number_of-set}
+use Rattle.std.proofs.Math.Nat.{pow-succ'}
+use Rattle.ffv1_range.proofs.writer.add_one.Goals as goal
+
+pub returns-then-bytes-place-lt255 : goal.returns-then-bytes-place-lt255
+returns-then-bytes-place-lt255 c =
+    let bytes = c.loop-back.bytes in
+    let place = length bytes - 1 - c.loop-back.back in
+    let back : length bytes - 1 - place ≡ c.loop-back.back = omega arith in
+    let change = rw back at (number_of-set bytes place (get_or bytes place 0 + 1) (omega arith)) in
+    omega (arith, change, c.loop-back.invariant)
+
+pub loop-back-preserved : goal.loop-back-preserved
+loop-back-preserved c =
+    let bytes = c.loop-back.bytes in
+    let place = length bytes - 1 - c.loop-back.back in
+    let back : length bytes - 1 - place ≡ c.loop-back.back = omega arith in
+    let full : get_or bytes place 0 ≡ 255 = omega (arith, c.type_inv.bytes place) in
+    let change = rw (back, full) at (number_of-set bytes place 0 (omega arith)) in
+    omega (arith, change, c.loop-back.invariant, pow-succ' 256 c.loop-back.back)
