@@ -71,11 +71,14 @@ transition_from_tests table entries bytes first start on = record {
 }
 
 -- the states that a table of these tests keeps
-pub kept_from_test : (table : List ℕ) (low high : ℕ) → length table ≡ 256 → agree_below (kept table) (λ k. leb low k && leb k high) 256 ≡ true → high < 256 → (state : ℕ) → IsKept table state ↔ ((low ≤ state) × (state ≤ high))
-kept_from_test table low high entries same top state = (
+kept_between : (table : List ℕ) (low high : ℕ) → length table ≡ 256 → agree_below (kept table) (λ k. leb low k && leb k high) 256 ≡ true → high < 256 → (state : ℕ) → IsKept table state ↔ ((low ≤ state) × (state ≤ high))
+kept_between table low high entries same top state = (
   λ h. elim (cases_lt state 256) [
     | inl less ↦ let parts = and_parts _ _ (sym (agree_below_at (kept table) (λ k. leb low k && leb k high) 256 state same less) ∙ kept-test table state h) in (leb-true _ _ parts.0, leb-true _ _ parts.1)
     | inr more ↦ let past : slice_index table state ≡ 0 = get_or_past table state 0 (omega (arith, entries)) in absurd (omega (arith, past, h.0))
   ],
   λ h. kept-fact table state (agree_below_at (kept table) (λ k. leb low k && leb k high) 256 state same (omega (arith, h.1, top)) ∙ and_from _ _ (le-leb _ _ h.0) (le-leb _ _ h.1)),
 )
+
+pub kept_from_test : (result table : List ℕ) (low high : ℕ) → result ≡ table → length table ≡ 256 → agree_below (kept table) (λ k. leb low k && leb k high) 256 ≡ true → high < 256 → (state : ℕ) → IsKept result state ↔ ((low ≤ state) × (state ≤ high))
+kept_from_test result table low high e entries same top state = subst (λ (t : List ℕ). IsKept t state ↔ ((low ≤ state) × (state ≤ high))) (sym e) (kept_between table low high entries same top state)

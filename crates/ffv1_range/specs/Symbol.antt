@@ -22,15 +22,23 @@ unfoldable pub low_bits : ℕ → ℕ → List (ℕ × Bool)
 low_bits zero magnitude = []
 low_bits (suc i) magnitude = (22 + min i 9, bit_at magnitude i == 1) ∷ low_bits i magnitude
 
--- The spelling of a value: the places and bits of its symbol. It tells whether the value is 0, then its exponent as so many
--- ones and a zero, then the bits below the highest 1, and of a signed value the sign.
+-- a magnitude above 0: its exponent as so many ones and a zero, and then the bits below its highest 1
+unfoldable pub magnitude_bits : ℕ → List (ℕ × Bool)
+magnitude_bits magnitude =
+    let exponent = exponent_of magnitude in
+    ones 0 exponent ++ (1 + min exponent 9, false) ∷ low_bits exponent magnitude
+
+-- the sign of a signed value of this exponent
+abbrev pub sign_bits : Bool → ℕ → Bool → List (ℕ × Bool)
+sign_bits signed exponent negative = if signed then (11 + min exponent 10, negative) ∷ [] else []
+
+-- The spelling of a value: the places and bits of its symbol. It tells whether the value is 0, else its magnitude, and of a
+-- signed value the sign.
 unfoldable pub spelling : ℤ → Bool → List (ℕ × Bool)
 spelling value signed =
-    let magnitude = nat_abs value in
-    let exponent = exponent_of magnitude in
-    if magnitude == 0
+    if nat_abs value == 0
     then (0, true) ∷ []
-    else (0, false) ∷ ones 0 exponent ++ (1 + min exponent 9, false) ∷ low_bits exponent magnitude ++ (if signed then (11 + min exponent 10, is_negative value) ∷ [] else [])
+    else (0, false) ∷ magnitude_bits (nat_abs value) ++ sign_bits signed (exponent_of (nat_abs value)) (is_negative value)
 
 -- how each symbol begins whose exponent is over 31
 unfoldable pub too_long : List (ℕ × Bool)

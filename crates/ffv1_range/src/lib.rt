@@ -15,3 +15,6 @@ pub use reader::{RangeReader, TooLong};
 pub use states::States;
 pub use transition::Transition;
 pub use writer::RangeWriter;
+
+#[cfg(test)]
+mod tests;

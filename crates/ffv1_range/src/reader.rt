@@ -119,10 +119,19 @@ impl<'a> RangeReader<'a> {
         ensures err { OnErr result (Reads (source self.old set.old) too_long (source self.new set.new)) }
         ensures kept { AllKept self.new.table set.new }
     {
+        self.symbol_or_none(set, signed).ok_or(TooLong)
+    }
+
+    #[inline(always)]
+    fn symbol_or_none(&mut self, set: &mut States, signed: bool) -> Option<i64>
+        requires { AllKept self.old.table set.old }
+        ensures symbol { symbol_at (source self.old set.old) signed ≡ (result, source self.new set.new) }
+        ensures kept { AllKept self.new.table set.new }
+    {
         let mut at = self.at;
         let value = symbol_from(self.table, self.bytes, &mut at, &mut set.states, signed);
         self.at = at;
-        value.ok_or(TooLong)
+        value
     }
 }
 

@@ -1,8 +1,8 @@
 //! Writing bits and symbols. RFC 9043 sections 3.8.1.1 and 3.8.1.2.
-ghost use Rattle.std.specs.Prelude.{◌≡◌, ℕ, ◌+◌, ◌*◌, ◌/◌, ◌^◌, ◌<◌, ◌≤◌, if◌then◌else◌, IfOk, OnOk, OnErr, List, [], ◌∷◌, ◌++◌, true, false, length, replicate, slice_index, take, min, vec_len};
+ghost use Rattle.std.specs.Prelude.{◌≡◌, ℕ, ◌+◌, ◌*◌, ◌/◌, ◌^◌, ◌<◌, ◌≤◌, if◌then◌else◌, IfOk, OnOk, OnErr, List, [], ◌∷◌, ◌++◌, true, false, length, replicate, slice_index, take, min, nat_abs, vec_len};
 ghost use Rattle.ffv1_range.specs.Transition.{IsTransition, IsKept, AllKept, next_state, moved};
 ghost use Rattle.ffv1_range.specs.Writing.{started, chosen, shifted, put, put_all, part, closed};
-ghost use Rattle.ffv1_range.specs.Symbol.{spelling, with_states, set_after, ones, low_bits};
+ghost use Rattle.ffv1_range.specs.Symbol.{spelling, magnitude_bits, exponent_of, is_negative, with_states, set_after, ones, low_bits};
 ghost use Rattle.ffv1_range.specs.Law.{IsSpelled};
 ghost use Rattle.ffv1_range.specs.Cursor.{number_of, writing_at, IsSound};
 
@@ -312,23 +312,63 @@ fn symbol_into(
     ensures sound { IsSound bytes.new at.new }
     ensures kept { AllKept table.now states.new }
 {
-    let magnitude = value.unsigned_abs() as u32;
+    let magnitude = magnitude_of(value);
     bit_at(table, bytes, at, states, 0, magnitude == 0);
     if magnitude > 0 {
-        let exponent = magnitude.ilog2();
-        exponent_into(table, bytes, at, states, exponent);
-        low_bits_into(table, bytes, at, states, exponent, magnitude);
+        let exponent = exponent(magnitude);
+        magnitude_into(table, bytes, at, states, exponent, magnitude);
         if signed {
-            bit_at(
-                table,
-                bytes,
-                at,
-                states,
-                11 + exponent.min(10) as usize,
-                value < 0,
-            );
+            let place = 11 + exponent.min(10) as usize;
+            bit_at(table, bytes, at, states, place, is_negative(value));
         }
     }
+}
+
+fn magnitude_of(value: i64) -> u32
+    requires { nat_abs value < 2 ^ 32 }
+    ensures { result ≡ nat_abs value }
+{
+    value.unsigned_abs() as u32
+}
+
+fn is_negative(value: i64) -> bool
+    ensures { result ≡ is_negative value }
+{
+    value < 0
+}
+
+// The place of the highest 1.
+fn exponent(magnitude: u32) -> u32
+    requires { 0 < magnitude }
+    ensures exponent { result ≡ exponent_of magnitude }
+    ensures small { result < 32 }
+{
+    magnitude.ilog2()
+}
+
+// Writes a magnitude above 0.
+#[inline(always)]
+fn magnitude_into(
+    table: &Transition,
+    bytes: &mut [u8],
+    at: &mut Cursor,
+    states: &mut [u8; 32],
+    exponent: u32,
+    magnitude: u32,
+)
+    requires exponent { exponent ≡ exponent_of magnitude }
+    requires small { exponent < 32 }
+    requires sound { IsSound bytes.old at.old }
+    requires room { at.old.used + 2 * exponent < length bytes.old }
+    requires kept { AllKept table.now states.old }
+    ensures at { writing_at table.now bytes.new at.new ≡ put_all (writing_at table.now bytes.old at.old) (with_states table.now states.old (magnitude_bits magnitude)) }
+    ensures states { states.new ≡ set_after table.now states.old (magnitude_bits magnitude) }
+    ensures sound { IsSound bytes.new at.new }
+    ensures used { at.new.used ≤ at.old.used + 2 * exponent + 1 }
+    ensures kept { AllKept table.now states.new }
+{
+    exponent_into(table, bytes, at, states, exponent);
+    low_bits_into(table, bytes, at, states, exponent, magnitude);
 }
 
 // Writes an exponent: so many ones, and a zero.

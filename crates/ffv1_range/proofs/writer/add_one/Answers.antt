@@ -1,4 +1,4 @@
-use Rattle.std.proofs.Common.{◌≡◌, ◌+◌, ◌-◌, length, get_or, arith}
+use Rattle.std.proofs.Common.{◌≡◌, ◌+◌, ◌-◌, ◌*◌, ◌^◌, length, get_or, add-one, arith, rules}
 use Rattle.ffv1_range.proofs.Numbers.{number_of-set}
 use Rattle.std.proofs.Math.Nat.{pow-succ'}
 use Rattle.ffv1_range.proofs.writer.add_one.Goals as goal
@@ -16,6 +16,7 @@ loop-back-preserved c =
     let bytes = c.loop-back.bytes in
     let place = length bytes - 1 - c.loop-back.back in
     let back : length bytes - 1 - place ≡ c.loop-back.back = omega arith in
-    let full : get_or bytes place 0 ≡ 255 = omega (arith, c.type_inv.bytes place) in
+    let full : get_or bytes place 0 ≡ 255 = search rules in
     let change = rw (back, full) at (number_of-set bytes place 0 (omega arith)) in
-    omega (arith, change, c.loop-back.invariant, pow-succ' 256 c.loop-back.back)
+    let power : 256 ^ (c.loop-back.back + 1) ≡ 256 * 256 ^ c.loop-back.back = rw add-one (pow-succ' 256 c.loop-back.back) in
+    omega (arith, change, c.loop-back.invariant, power)
