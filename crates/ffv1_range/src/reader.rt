@@ -17,9 +17,9 @@ pub struct TooLong;
 
 /// Where a reader stands: the range, low within it, and how many bytes were taken.
 #[derive(Clone, Copy)]
-struct Position {
-    range: u32,
-    low: u32,
+pub(crate) struct Position {
+    pub(crate) range: u32,
+    pub(crate) low: u32,
     taken: usize,
 }
 
@@ -36,7 +36,7 @@ struct BitRead {
 pub struct RangeReader<'a> {
     table: &'a Transition,
     bytes: &'a [u8],
-    at: Position,
+    pub(crate) at: Position,
 }
 
 // Clauses see the table, the range and low, the count of bytes taken, and the bytes that are left.

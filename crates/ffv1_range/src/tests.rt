@@ -10,9 +10,12 @@ fn reads_two_bits(rt: HostRuntime) -> Result<(), Fail> {
     let mut first = 128;
     let mut second = 128;
     assert!(rt; reader.bit(&mut first));
-    assert_eq!(rt; (reader.numbers(), first), ((32_640, 128), 134));
+    assert_eq!(rt; (reader.at.range, reader.at.low, first), (32_640, 128, 134));
     assert!(rt; !reader.bit(&mut second));
-    assert_eq!(rt; (reader.numbers(), second), ((16_320, 128), 122));
+    assert_eq!(rt;
+        (reader.at.range, reader.at.low, second),
+        (16_320, 128, 122)
+    );
     assert_eq!(rt; reader.taken(), 2);
     Ok(())
 }
@@ -41,7 +44,17 @@ fn reads_short_lists_back(rt: HostRuntime) -> Result<(), Fail> {
 
 #[test]
 fn reads_symbols_back(rt: HostRuntime) -> Result<(), Fail> {
-    let values = [0, 1, -1, -5, 127, -128, 65_535, -4_294_967_295, 4_294_967_295];
+    let values = [
+        0,
+        1,
+        -1,
+        -5,
+        127,
+        -128,
+        65_535,
+        -4_294_967_295,
+        4_294_967_295,
+    ];
     let table = Transition::usual();
     let mut writer = RangeWriter::start(rt.alloc(), &table);
     let mut set = States::fresh();
