@@ -56,8 +56,9 @@ impl<'a> RangeReader<'a> {
     #[tactic(auto, unfolding(crate::specs::Reading::opened))]
     pub fn over(bytes: &'a [u8], table: &'a Transition) -> RangeReader<'a>
         ensures reading { result ≡ opened table.now bytes.now }
-        ensures sound { IsTransition table.now }
-        ensures fresh { AllKept table.now (replicate 32 128) }
+        ensures table { result.table ≡ table.now }
+        ensures sound { IsTransition result.table }
+        ensures fresh { AllKept result.table (replicate 32 128) }
     {
         let keeps_first = table.keeps(128);
         prove!(keeps_first);
@@ -87,6 +88,7 @@ impl<'a> RangeReader<'a> {
         requires { IsKept self.old.table state.old }
         ensures bit { result ≡ bit_of self.old state.old }
         ensures state { state.new ≡ next_state self.old.table state.old result }
+        ensures table { self.new.table ≡ self.old.table }
         ensures kept { IsKept self.new.table state.new }
         ensures reader { self.new ≡ after_bit self.old state.old }
     {
@@ -102,6 +104,7 @@ impl<'a> RangeReader<'a> {
         requires { AllKept self.old.table set.old }
         ensures bit { result ≡ bit_at_place (source self.old set.old) 0 }
         ensures after { source self.new set.new ≡ after_place (source self.old set.old) 0 }
+        ensures table { self.new.table ≡ self.old.table }
         ensures kept { AllKept self.new.table set.new }
     {
         let mut at = self.at;
@@ -117,6 +120,7 @@ impl<'a> RangeReader<'a> {
         ensures symbol { symbol_at (source self.old set.old) signed ≡ (result_ok result, source self.new set.new) }
         ensures ok { IfOk result (λ value. IsSpelled value signed × Reads (source self.old set.old) (spelling value signed) (source self.new set.new)) }
         ensures err { OnErr result (Reads (source self.old set.old) too_long (source self.new set.new)) }
+        ensures table { self.new.table ≡ self.old.table }
         ensures kept { AllKept self.new.table set.new }
     {
         self.symbol_or_none(set, signed).ok_or(TooLong)
@@ -126,6 +130,7 @@ impl<'a> RangeReader<'a> {
     fn symbol_or_none(&mut self, set: &mut States, signed: bool) -> Option<i64>
         requires { AllKept self.old.table set.old }
         ensures symbol { symbol_at (source self.old set.old) signed ≡ (result, source self.new set.new) }
+        ensures table { self.new.table ≡ self.old.table }
         ensures kept { AllKept self.new.table set.new }
     {
         let mut at = self.at;

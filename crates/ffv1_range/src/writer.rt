@@ -47,8 +47,9 @@ impl<'a> RangeWriter<'a> {
     #[tactic(auto, unfolding(crate::specs::Writing::started))]
     pub fn start(alloc: Global, table: &'a Transition) -> RangeWriter<'a>
         ensures writing { result ≡ started table.now }
-        ensures sound { IsTransition table.now }
-        ensures fresh { AllKept table.now (replicate 32 128) }
+        ensures table { result.table ≡ table.now }
+        ensures sound { IsTransition result.table }
+        ensures fresh { AllKept result.table (replicate 32 128) }
     {
         let keeps_first = table.keeps(128);
         prove!(keeps_first);
@@ -70,6 +71,7 @@ impl<'a> RangeWriter<'a> {
         requires { IsKept self.old.table state.old }
         ensures ok { OnOk result (self.new ≡ put self.old state.old bit) }
         ensures state { OnOk result (state.new ≡ next_state self.old.table state.old bit) }
+        ensures table { self.new.table ≡ self.old.table }
         ensures kept { IsKept self.new.table state.new }
         ensures err { OnErr result ((self.new ≡ self.old) × (state.new ≡ state.old)) }
     {
@@ -85,6 +87,7 @@ impl<'a> RangeWriter<'a> {
         requires { AllKept self.old.table set.old }
         ensures ok { OnOk result (self.new ≡ put_all self.old (with_states self.old.table set.old ((0, bit) ∷ []))) }
         ensures set { OnOk result (set.new ≡ set_after self.old.table set.old ((0, bit) ∷ [])) }
+        ensures table { self.new.table ≡ self.old.table }
         ensures kept { AllKept self.new.table set.new }
         ensures err { OnErr result ((self.new ≡ self.old) × (set.new ≡ set.old)) }
     {
@@ -109,6 +112,7 @@ impl<'a> RangeWriter<'a> {
         requires spelled { IsSpelled value signed }
         ensures ok { OnOk result (self.new ≡ put_all self.old (with_states self.old.table set.old (spelling value signed))) }
         ensures set { OnOk result (set.new ≡ set_after self.old.table set.old (spelling value signed)) }
+        ensures table { self.new.table ≡ self.old.table }
         ensures kept { AllKept self.new.table set.new }
         ensures err { OnErr result ((self.new ≡ self.old) × (set.new ≡ set.old)) }
     {
