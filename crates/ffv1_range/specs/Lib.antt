@@ -1,0 +1,7 @@
+pub mod Transition
+pub mod Reading
+pub mod Writing
+pub mod Symbol
+pub mod Law
+pub mod Position
+pub mod Cursor

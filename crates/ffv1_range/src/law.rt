@@ -1,0 +1,27 @@
+//! The laws of the range coder, about its definitions alone.
+ghost use Rattle.ffv1_range.specs.Law.{ReadsOpenPart, ReadsClosedParts, ReadsSymbols, CodesInTurn, NoPrefix};
+
+/// Without the closing bit, reading what was written gives the bits back.
+pub fn reads_open_part()
+    ensures { ReadsOpenPart }
+{}
+
+/// With the closing bit, whatever bytes follow, reading gives the bits before it back, and takes as many bytes up to and with it.
+pub fn reads_closed_part()
+    ensures { ReadsClosedParts }
+{}
+
+/// A symbol is read as a value exactly where the value's spelling is read.
+pub fn reads_symbols()
+    ensures { ReadsSymbols }
+{}
+
+/// Where the bits of places are coded with the states of a set, they are read at these places.
+pub fn codes_in_turn()
+    ensures { CodesInTurn }
+{}
+
+/// No spelling begins another, nor does one begin as a symbol that is too long.
+pub fn no_prefix()
+    ensures { NoPrefix }
+{}

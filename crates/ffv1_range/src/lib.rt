@@ -1,0 +1,21 @@
+//! The range coder of FFV1 version 3, both ways: RFC 9043 section 3.8.1.
+//!
+//! A bit is coded with a state from 1 to 255, which a state transition table then moves. A symbol is a number as bits, each
+//! with one of a set's 32 states.
+#![tactic(auto)]
+
+mod cursor;
+mod law;
+mod reader;
+mod states;
+mod transition;
+mod writer;
+
+pub use law::{codes_in_turn, no_prefix, reads_closed_part, reads_open_part, reads_symbols};
+pub use reader::{RangeReader, TooLong};
+pub use states::States;
+pub use transition::Transition;
+pub use writer::RangeWriter;
+
+#[cfg(test)]
+mod tests;
