@@ -1,0 +1,9 @@
+//! The shape of pictures with planes of 8-bit samples.
+#![tactic(auto)]
+
+mod shape;
+
+pub use shape::{Chroma, MAX_SHIFT, MAX_SIZE, Shape};
+
+#[cfg(test)]
+mod tests;
