@@ -1,0 +1,5 @@
+pub mod Runs
+pub mod Parts
+pub mod Cuts
+pub mod Steps
+pub mod Sound

@@ -1,0 +1,4 @@
+pub mod Recipe
+pub mod Segment
+pub mod Edit
+pub mod Media

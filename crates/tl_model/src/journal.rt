@@ -1,0 +1,114 @@
+//! The journal: each call that changed a session or was answered from its state, in order.
+
+ghost use Rattle.std.specs.Prelude.{◌≡◌, IfOk};
+
+use crate::edit::Edit;
+use std::alloc::{AllocError, Global};
+use std::marker::Model;
+
+/// What a call did.
+#[derive(Debug, Drop, PartialEq, Eq)]
+pub enum Act {
+    Edit(Edit),
+    Want { first: u32, len: u32 },
+    Cancel { first: u32, len: u32 },
+    Claim,
+    File { job: u64 },
+    Release { job: u64 },
+    Play { n: u32 },
+    Stop,
+}
+
+impl Act {
+    /// The same act again.
+    pub fn copy(&self, alloc: Global) -> Result<Act, AllocError>
+        ensures { IfOk result (λ a. a ≡ self.now) }
+    {
+        match self {
+            Act::Edit(edit) => {
+                let edit = edit.copy(alloc)?;
+                Ok(Act::Edit(edit))
+            }
+            Act::Want { first, len } => Ok(Act::Want {
+                first: *first,
+                len: *len,
+            }),
+            Act::Cancel { first, len } => Ok(Act::Cancel {
+                first: *first,
+                len: *len,
+            }),
+            Act::Claim => Ok(Act::Claim),
+            Act::File { job } => Ok(Act::File { job: *job }),
+            Act::Release { job } => Ok(Act::Release { job: *job }),
+            Act::Play { n } => Ok(Act::Play { n: *n }),
+            Act::Stop => Ok(Act::Stop),
+        }
+    }
+}
+
+/// One call: the number of its caller, and what it did.
+#[derive(Debug, Drop, PartialEq, Eq)]
+pub struct Entry {
+    pub pass: u32,
+    pub act: Act,
+}
+
+impl Entry {
+    /// The same entry again.
+    pub fn copy(&self, alloc: Global) -> Result<Entry, AllocError>
+        ensures { IfOk result (λ e. e ≡ self.now) }
+    {
+        let act = self.act.copy(alloc)?;
+        Ok(Entry {
+            pass: self.pass,
+            act,
+        })
+    }
+}
+
+/// A list of entries. They are counted from 1.
+#[derive(Debug, Drop)]
+pub struct Journal {
+    items: Vec<Entry>,
+}
+
+impl Model for Journal {
+    ghost use Rattle.std.specs.Prelude.{List};
+    ghost use Rattle.tl_model.specs.declared.journal.Entry.{Entry};
+
+    ghost Value = { List Entry };
+
+    ghost view = { λ j. j.items.items };
+}
+
+fn copies(alloc: Global, items: &[Entry]) -> Result<Vec<Entry>, AllocError>
+    ensures { IfOk result (λ v. v.items ≡ items.now) }
+{
+    let mut copied = Vec::with_capacity(alloc, items.len())?;
+    for entry in items {
+        let entry = entry.copy(alloc)?;
+        copied.push(entry)?;
+    }
+    Ok(copied)
+}
+
+impl Journal {
+    pub fn from_vec(items: Vec<Entry>) -> Journal
+        ensures { result ≡ items.items }
+    {
+        Journal { items }
+    }
+
+    pub fn as_slice(&self) -> &[Entry]
+        ensures { result.now ≡ self.now }
+    {
+        self.items.as_slice()
+    }
+
+    pub fn copy(&self, alloc: Global) -> Result<Journal, AllocError>
+        ensures { IfOk result (λ j. j ≡ self.now) }
+    {
+        let items = copies(alloc, self.items.as_slice())?;
+        Ok(Journal { items })
+    }
+}
