@@ -35,7 +35,7 @@ def main(parts) -> int:
     if unknown:
         print(f"usage: run [{' | '.join(PARTS)}]..", file=sys.stderr)
         return 2
-    work = HERE / "work"
+    work = HERE / "out"
     shutil.rmtree(work, ignore_errors=True)
     work.mkdir()
     report = Report()
