@@ -147,7 +147,8 @@ const CASES: [Case; 9] = [
         vault: &[],
         out: &[2],
         status: 4,
-        lines: "ok 3\nasked",
+        // Half of `asked 1` and its line end; the export that was asked for is made all the same.
+        lines: "ok 3\naske",
         exported: Some(261 + 7),
     },
     Case {
