@@ -62,10 +62,11 @@ fn clip(alloc: Global, frames: u16) -> Result<Vec<u8>, AllocError> {
     Ok(file)
 }
 
-/// A run over a script and a clip, and which calls of the vault and of `out` fail.
+/// A run over a script and a clip, and which calls of the store, of the vault and of `out` fail, counted from 1.
 struct Case {
     script: &'static [u8],
     frames: u16,
+    store: &'static [u64],
     vault: &'static [u64],
     out: &'static [u64],
     status: u8,
@@ -76,10 +77,11 @@ struct Case {
 
 const THREE: &[u8] = b"rate 25\nclip A a.mkv\nformat as A\ninsert 0 A 0 3\nexport o.mkv\n";
 
-const CASES: [Case; 9] = [
+const CASES: [Case; 13] = [
     Case {
         script: THREE,
         frames: 3,
+        store: &[],
         vault: &[],
         out: &[],
         status: 0,
@@ -89,6 +91,7 @@ const CASES: [Case; 9] = [
     Case {
         script: b"rate 25\r\nclip A a.mkv\r\nformat as A\r\ninsert 0 A 0 26\r\nexport o.mkv",
         frames: 26,
+        store: &[],
         vault: &[],
         out: &[],
         status: 0,
@@ -98,6 +101,7 @@ const CASES: [Case; 9] = [
     Case {
         script: b"rate 25\nclip A a.mkv\nformat as A\ninsert 0 A 0 4\nexport o.mkv\n",
         frames: 3,
+        store: &[],
         vault: &[],
         out: &[],
         status: 0,
@@ -107,6 +111,7 @@ const CASES: [Case; 9] = [
     Case {
         script: b"rate 25\nclip A a.mkv\nformat as A\nwant 0 3\nexport o.mkv\n",
         frames: 3,
+        store: &[],
         vault: &[],
         out: &[],
         status: 3,
@@ -116,6 +121,7 @@ const CASES: [Case; 9] = [
     Case {
         script: b"rate 25\nclip A b.mkv\nformat as A\ninsert 0 A 0 3\nexport o.mkv\n",
         frames: 3,
+        store: &[],
         vault: &[],
         out: &[],
         status: 4,
@@ -125,6 +131,7 @@ const CASES: [Case; 9] = [
     Case {
         script: b"rate 25\nclip A u.mkv\nformat as A\ninsert 0 A 0 3\nexport o.mkv\n",
         frames: 3,
+        store: &[],
         vault: &[],
         out: &[],
         status: 3,
@@ -134,6 +141,7 @@ const CASES: [Case; 9] = [
     Case {
         script: THREE,
         frames: 3,
+        store: &[],
         vault: &[2],
         out: &[],
         status: 4,
@@ -144,6 +152,7 @@ const CASES: [Case; 9] = [
     Case {
         script: THREE,
         frames: 3,
+        store: &[],
         vault: &[],
         out: &[2],
         status: 4,
@@ -152,8 +161,50 @@ const CASES: [Case; 9] = [
         exported: Some(261 + 7),
     },
     Case {
+        script: THREE,
+        frames: 3,
+        store: &[1],
+        vault: &[],
+        out: &[],
+        status: 4,
+        lines: "store s Failed\n",
+        exported: None,
+    },
+    Case {
+        script: THREE,
+        frames: 3,
+        store: &[2],
+        vault: &[],
+        out: &[],
+        status: 4,
+        lines: "store a.mkv Failed\n",
+        exported: None,
+    },
+    Case {
+        script: THREE,
+        frames: 3,
+        store: &[],
+        vault: &[1],
+        out: &[],
+        status: 4,
+        lines: "ok 3\nasked 1\nexport 1 sink\n",
+        exported: None,
+    },
+    Case {
+        script: THREE,
+        frames: 3,
+        store: &[],
+        vault: &[7],
+        out: &[],
+        status: 4,
+        lines: "ok 3\nasked 1\nexport 1 sink\n",
+        // The file is whole, and its end fails.
+        exported: Some(261 + 7),
+    },
+    Case {
         script: b"",
         frames: 3,
+        store: &[],
         vault: &[],
         out: &[],
         status: 3,
@@ -164,7 +215,7 @@ const CASES: [Case; 9] = [
 
 /// The store of a case: its script, its clip, and the clip with a Cluster of unknown size.
 fn store_of(alloc: Global, case: &Case) -> Result<MemStore, AllocError> {
-    let mut store = MemStore::start(alloc, Vec::new(alloc));
+    let mut store = MemStore::start(alloc, Vec::from_slice(alloc, case.store)?);
     store.add("s", Vec::from_slice(alloc, case.script)?)?;
     store.add("a.mkv", clip(alloc, case.frames)?)?;
     store.add("u.mkv", unknown_cluster(alloc)?)?;
