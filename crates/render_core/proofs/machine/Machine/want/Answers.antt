@@ -1,0 +1,12 @@
+use Rattle.std.proofs.Common.{◌≡◌, ◌+◌, ◌-◌, ◌≤◌, List, length, sym, subst, ap, ◌∙◌, arith}
+use Rattle.render_core.specs.Parts.{HasOneOpen, recipes_of}
+use Rattle.render_core.specs.State.{range}
+use Rattle.render_core.proofs.Jobs as jobs
+use Rattle.render_core.proofs.machine.Machine.want.Goals as goal
+
+pub invariant_of-self-2 : goal.invariant_of-self-2
+invariant_of-self-2 g c = record {
+  sound = c.self.invariant.sound;
+  results_are = c.self.invariant.results_are;
+  one_open = ?;
+}

@@ -1,0 +1,106 @@
+-- The board as contracts see it, and what its calls answer.
+use Rattle.std.specs.Prelude.{◌≡◌, ℕ, ◌+◌, ◌-◌, ◌<◌, ◌≤◌, if◌then◌else◌, Bool, true, false, List, [], ◌∷◌, ◌++◌, map, length, slice_get, Option, Some, None, IsSome, Result, Ok, Err}
+use Rattle.std.specs.Arc.{arc_value}
+use Rattle.std.specs.List.{position}
+use Rattle.std.specs.declared.alloc.AllocError.{AllocError}
+use Rattle.tl_model.specs.Media.{Library, RenderedOf}
+use Rattle.tl_model.specs.declared.recipe.Recipe.{Recipe}
+use Rattle.tl_model.specs.declared.edit.EditReply.{EditReply}
+use Rattle.tl_model.specs.declared.journal.Act.{Act}
+use Rattle.tl_model.specs.declared.journal.Act.TheVariants as act
+use Rattle.tl_model.specs.declared.journal.Entry.{Entry}
+use Rattle.render_core.specs.declared.reply.Full.{Full}
+use Rattle.render_core.specs.declared.reply.Full.TheVariants as full
+use Rattle.render_core.specs.declared.reply.WantReply.{WantReply}
+use Rattle.render_core.specs.declared.reply.WantReply.TheVariants as want
+use Rattle.render_core.specs.declared.reply.CancelReply.{CancelReply}
+use Rattle.render_core.specs.declared.reply.CancelReply.TheVariants as cancel
+use Rattle.render_core.specs.declared.reply.FileReply.{FileReply}
+use Rattle.render_core.specs.declared.reply.FileReply.TheVariants as file
+use Rattle.render_core.specs.declared.reply.ReleaseReply.{ReleaseReply}
+use Rattle.render_core.specs.declared.reply.ReleaseReply.TheVariants as release
+use Rattle.render_core.specs.declared.reply.PlayReply.{PlayReply}
+use Rattle.render_core.specs.declared.reply.PlayReply.TheVariants as play
+use Rattle.render_core.specs.State.{State, owed, is_queued}
+use Rattle.render_core.specs.Parts.{MachineOf, in_state}
+use Rattle.render_core.specs.Step.{Reply, Edited, Wanted, Cancelled, PastEnd, Claimed, Filed, Released, Closed, Picture, Fault, Pending, IsLegal, reply, state_after}
+
+-- The library, the size of the cache, the most entries, the journal, and how many entries need no memory beyond those owed.
+pub record BoardOf (M : Type 0) : Type 0 where
+  pub library : M
+  pub cache : ℕ
+  pub limit : ℕ
+  pub journal : List Entry
+  pub spare : ℕ
+
+abbrev pub of_edit : {F : Type 0} → EditReply → Reply F
+of_edit reply = Edited reply
+
+abbrev pub of_want : {F : Type 0} → WantReply → Reply F
+of_want (want.Wanted count) = Wanted count
+of_want (want.PastEnd len) = PastEnd len
+
+abbrev pub of_cancel : {F : Type 0} → CancelReply → Reply F
+of_cancel (cancel.Cancelled count) = Cancelled count
+of_cancel (cancel.PastEnd len) = PastEnd len
+
+abbrev pub of_file : {F : Type 0} → FileReply → Reply F
+of_file file.Filed = Filed
+of_file (file.Closed at) = Closed at
+
+abbrev pub of_release : {F : Type 0} → ReleaseReply → Reply F
+of_release release.Released = Released
+of_release (release.Closed at) = Closed at
+
+abbrev pub of_play : {F : Type 0} → PlayReply F → Reply F
+of_play (play.Frame frame) = Picture (arc_value frame)
+of_play (play.Fault fault) = Fault fault
+of_play (play.Pending recipe) = Pending recipe
+of_play (play.PastEnd len) = PastEnd len
+
+-- The same but for the room that is left.
+pub record IsSame {M : Type 0} (old new : BoardOf M) : Type 0 where
+  pub library : new.library ≡ old.library
+  pub cache : new.cache ≡ old.cache
+  pub limit : new.limit ≡ old.limit
+  pub journal : new.journal ≡ old.journal
+
+module _ {M F : Type 0} where
+  -- The state that the board stands for.
+  abbrev pub state_of : (M → Library F) → BoardOf M → State
+  state_of library b = state_after (library b.library) b.cache b.journal
+
+  -- So many more entries are within the limit.
+  abbrev pub HasRoom : (M → Library F) → BoardOf M → ℕ → Type 0
+  HasRoom library b need = length b.journal + owed (state_of library b) + need ≤ b.limit
+
+  -- One entry more, which may come there.
+  pub record Adds (library : M → Library F) (old new : BoardOf M) (pass : ℕ) (what : Act) : Type 0 where
+    pub library_stays : new.library ≡ old.library
+    pub cache : new.cache ≡ old.cache
+    pub limit : new.limit ≡ old.limit
+    pub journal : new.journal ≡ old.journal ++ record { pass = pass; act = what } ∷ []
+    pub legal : IsLegal pass what (state_of library old)
+
+  -- A refusal changes nothing. `JournalFull` comes exactly where the entries don't fit, before any want of memory.
+  abbrev pub Refuses : (M → Library F) → (old new : BoardOf M) (need : ℕ) → Full → Type 0
+  Refuses library old new need (full.JournalFull len owing) =
+      IsSame old new × (len ≡ length old.journal) × (owing ≡ owed (state_of library old)) × (old.limit < len + owing + need)
+  Refuses library old new need full.NoMemory = IsSame old new × HasRoom library old need
+
+  -- A call adds its entry and gives the machine's reply, or is refused.
+  abbrev pub Does : {R : Type 0} → (M → Library F) → (old new : BoardOf M) (pass : ℕ) → Act → (R → Reply F) → Result R Full → Type 0
+  Does library old new pass what view (Ok given) = HasRoom library old 1 × Adds library old new pass what × (view given ≡ reply (library old.library) what (state_of library old))
+  Does library old new pass what view (Err why) = Refuses library old new 1 why
+
+  -- A call whose entry was owed adds it and gives the machine's reply, out of the room that was kept for it.
+  pub record Pays {R : Type 0} (library : M → Library F) (old new : BoardOf M) (pass : ℕ) (what : Act) (view : R → Reply F) (given : R) : Type 0 where
+    pub added : Adds library old new pass what
+    pub replied : view given ≡ reply (library old.library) what (state_of library old)
+    pub spare : new.spare ≡ old.spare
+
+-- One turn of the machine: its next state and its reply, or want of memory.
+abbrev pub Turns : {M F R : Type 0} → (old new : MachineOf M) → State → Reply F → (R → Reply F) → Result R Full → Type 0
+Turns old new state told view (Ok given) = (new ≡ in_state state old) × (view given ≡ told)
+Turns old new state told view (Err (full.JournalFull len owing)) = ⊥
+Turns old new state told view (Err full.NoMemory) = new ≡ old

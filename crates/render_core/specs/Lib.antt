@@ -1,0 +1,5 @@
+pub mod Claim
+pub mod State
+pub mod Step
+pub mod Board
+pub mod Parts
