@@ -1,5 +1,5 @@
 -- The board as contracts see it, and what its calls answer.
-use Rattle.std.specs.Prelude.{◌≡◌, ℕ, ◌+◌, ◌-◌, ◌<◌, ◌≤◌, if◌then◌else◌, Bool, true, false, List, [], ◌∷◌, ◌++◌, map, length, slice_get, Option, Some, None, IsSome, Result, Ok, Err}
+use Rattle.std.specs.Prelude.{◌≡◌, ℕ, ◌+◌, ◌-◌, ◌<◌, ◌≤◌, ◌^◌, if◌then◌else◌, Bool, true, false, List, [], ◌∷◌, ◌++◌, map, length, slice_get, Option, Some, None, IsSome, IsTrue, Result, Ok, Err}
 use Rattle.std.specs.Arc.{arc_value}
 use Rattle.std.specs.List.{position}
 use Rattle.std.specs.declared.alloc.AllocError.{AllocError}
@@ -15,6 +15,8 @@ use Rattle.render_core.specs.declared.reply.WantReply.{WantReply}
 use Rattle.render_core.specs.declared.reply.WantReply.TheVariants as want
 use Rattle.render_core.specs.declared.reply.CancelReply.{CancelReply}
 use Rattle.render_core.specs.declared.reply.CancelReply.TheVariants as cancel
+use Rattle.render_core.specs.declared.reply.ClaimReply.{ClaimReply}
+use Rattle.render_core.specs.declared.reply.ClaimReply.TheVariants as claims
 use Rattle.render_core.specs.declared.reply.FileReply.{FileReply}
 use Rattle.render_core.specs.declared.reply.FileReply.TheVariants as file
 use Rattle.render_core.specs.declared.reply.ReleaseReply.{ReleaseReply}
@@ -23,7 +25,7 @@ use Rattle.render_core.specs.declared.reply.PlayReply.{PlayReply}
 use Rattle.render_core.specs.declared.reply.PlayReply.TheVariants as play
 use Rattle.render_core.specs.State.{State, owed, is_queued}
 use Rattle.render_core.specs.Parts.{MachineOf, in_state}
-use Rattle.render_core.specs.Step.{Reply, Edited, Wanted, Cancelled, PastEnd, Claimed, Filed, Released, Closed, Picture, Fault, Pending, IsLegal, reply, state_after}
+use Rattle.render_core.specs.Step.{IsJournal, Reply, Edited, Wanted, Cancelled, PastEnd, Claimed, Filed, Released, Closed, Picture, Fault, Pending, IsLegal, reply, state_after}
 
 -- The library, the size of the cache, the most entries, the journal, and how many entries need no memory beyond those owed.
 pub record BoardOf (M : Type 0) : Type 0 where
@@ -104,3 +106,26 @@ abbrev pub Turns : {M F R : Type 0} → (old new : MachineOf M) → State → Re
 Turns old new state told view (Ok given) = (new ≡ in_state state old) × (view given ≡ told)
 Turns old new state told view (Err (full.JournalFull len owing)) = ⊥
 Turns old new state told view (Err full.NoMemory) = new ≡ old
+
+-- What the board keeps: it stands for the state after its journal, which is legal; what is owed is within the limit and has memory.
+pub record IsBoard {F : Type 0} (lib : Library F) (cache : ℕ) (state : State) (journal : List Entry) (limit owing room : ℕ) : Type 0 where
+  pub stands : state ≡ state_after lib cache journal
+  pub legal : IsJournal lib cache journal
+  pub owes : owing ≡ owed state
+  pub within : length journal + owing ≤ limit
+  pub few : limit ≤ 2 ^ 40
+  pub kept : length journal + owing ≤ room
+
+module _ {M F : Type 0} where
+  -- Room for some entries more, or why there is none.
+  abbrev pub MakesRoom : (M → Library F) → (old new : BoardOf M) (need : ℕ) → Result Unit Full → Type 0
+  MakesRoom library old new need (Ok done) = IsSame old new × HasRoom library old need × (need ≤ new.spare) × (need ≤ old.spare → new.spare ≡ old.spare)
+  MakesRoom library old new need (Err (full.JournalFull len owing)) = (new ≡ old) × Refuses library old new need (full.JournalFull len owing)
+  MakesRoom library old new need (Err full.NoMemory) = Refuses library old new need full.NoMemory × (old.spare < need)
+
+  -- A claim takes the lowest queued job; `Stopped` comes exactly where there is a stop, else `Idle` exactly where no job is queued.
+  abbrev pub Claims : (M → Library F) → (old new : BoardOf M) (pass : ℕ) → Result ClaimReply Full → Type 0
+  Claims library old new pass (Ok (claims.Claimed claim)) = HasRoom library old 2 × Adds library old new pass act.Claim × (◌≡◌ {A = Reply F} (Claimed claim.job claim.recipe) (reply (library old.library) act.Claim (state_of library old)))
+  Claims library old new pass (Ok (claims.Stopped len)) = (new ≡ old) × (len ≡ length old.journal) × IsTrue (state_of library old).is_stopped
+  Claims library old new pass (Ok (claims.Idle len)) = (new ≡ old) × (len ≡ length old.journal) × ((state_of library old).is_stopped ≡ false) × (position is_queued (state_of library old).jobs ≡ None)
+  Claims library old new pass (Err why) = ((state_of library old).is_stopped ≡ false) × IsSome (position is_queued (state_of library old).jobs) × Refuses library old new 2 why

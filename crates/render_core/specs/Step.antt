@@ -87,10 +87,15 @@ filed cache at i (Some job) s =
     then record { line = s.line; jobs = update i (ended at) s.jobs; filed = take cache (job.recipe ∷ s.filed); is_stopped = s.is_stopped }
     else with_jobs (update i let_go s.jobs) s
 
--- The reply to the end of a job: closed at an entry, or this one where it is open.
+-- This reply, or that the job was closed at an entry.
+abbrev pub unless_closed : {F : Type 0} → Reply F → Option ℕ → Reply F
+unless_closed told None = told
+unless_closed told (Some at) = Closed at
+
+-- The reply to the end of a job.
 abbrev pub end_reply : {F : Type 0} → Reply F → Option Job → Reply F
-end_reply reply None = Silent
-end_reply reply (Some job) = elim job.closed [ None ↦ reply | Some at ↦ Closed at ]
+end_reply told None = Silent
+end_reply told (Some job) = unless_closed told job.closed
 
 abbrev pub played : Option Recipe → State → State
 played None s = s

@@ -1,11 +1,38 @@
-use Rattle.std.proofs.Common.{◌≡◌, ◌+◌, ◌-◌, ◌≤◌, List, length, sym, subst, ap, ◌∙◌, arith}
-use Rattle.render_core.specs.Parts.{HasOneOpen, recipes_of}
-use Rattle.render_core.specs.State.{range}
-use Rattle.render_core.proofs.Jobs as jobs
+use Rattle.std.proofs.Common.{◌≡◌, ℕ, ◌<◌, List, length, Some, ◌∷◌, refl, sym, ap, subst, ◌∙◌, arith}
+use Rattle.std.specs.List.{remove}
+use Rattle.std.proofs.lemmas.Option.{slice_get_read, same_Some}
+use Rattle.std.proofs.lemmas.List.{length-map}
+use Rattle.tl_model.specs.Media.{RenderedOf}
+use Rattle.render_core.specs.Board.{of_play}
+use Rattle.render_core.specs.Step.{picture_of}
+use Rattle.render_core.specs.Parts.{Places, recipes_of}
+use Rattle.render_core.proofs.Turns.{place_within, AreOf-at, AreOf-moved, plays}
 use Rattle.render_core.proofs.machine.Machine.play.Goals as goal
 
 pub invariant_of-self : goal.invariant_of-self
-invariant_of-self g c = ?
+invariant_of-self g c =
+    let place = c.in-Some.place in
+    let filed = c.self.inside.filed.items in
+    let p = subst (λ (rs : List (RenderedOf _)). Places c.recipe_in-recipe.result (recipes_of rs) (Some place)) c.deref.ensures.value c.in-Some.ensures in
+    let item = slice_get_read filed (length filed) place c.remove-rendered.result refl (place_within filed place p.0) c.remove-rendered.ensures.value in
+    let inserted = rw c.unwrap.ensures at c.insert.ensures.items in
+    record {
+      sound = c.self.invariant.sound;
+      results_are = AreOf-moved c.self.inside.library.value place c.remove-rendered.result filed c.insert.new.self.items c.self.invariant.results_are item (inserted ∙ ap (λ (rs : List (RenderedOf _)). c.remove-rendered.result ∷ rs) c.remove-rendered.ensures.items);
+      one_open = c.self.invariant.one_open;
+    }
 
 pub returns : goal.returns
-returns g c = ?
+returns g c =
+    let place = c.in-Some.place in
+    let filed = c.self.inside.filed.items in
+    let p = subst (λ (rs : List (RenderedOf _)). Places c.recipe_in-recipe.result (recipes_of rs) (Some place)) c.deref.ensures.value c.in-Some.ensures in
+    let within = place_within filed place p.0 in
+    let item = slice_get_read filed (length filed) place c.remove-rendered.result refl within c.remove-rendered.ensures.value in
+    let item2 = slice_get_read filed (length filed) place c.index.result.now refl within c.index.ensures in
+    let same = same_Some c.index.result.now c.remove-rendered.result (sym item2 ∙ item) in
+    let inserted = rw c.unwrap.ensures at c.insert.ensures.items in
+    let library = AreOf-at c.self.inside.library.value filed place c.remove-rendered.result c.self.invariant.results_are item in
+    plays g.M.Media.library _ c.args.self.now c.args.n place c.recipe_in-recipe.result filed c.insert.new.self.items c.remove-rendered.result (of_play c.in-Ok.given) c.self.view_is refl c.recipe_in-recipe.ensures p item library
+    (inserted ∙ ap (λ (rs : List (RenderedOf _)). c.remove-rendered.result ∷ rs) c.remove-rendered.ensures.items)
+    (c.in-Ok.ensures ∙ ap (λ (x : RenderedOf _). picture_of ((g.M.Media.library x.library).render x.recipe)) same)

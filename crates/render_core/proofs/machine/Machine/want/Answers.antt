@@ -8,5 +8,5 @@ pub invariant_of-self-2 : goal.invariant_of-self-2
 invariant_of-self-2 g c = record {
   sound = c.self.invariant.sound;
   results_are = c.self.invariant.results_are;
-  one_open = ?;
+  one_open = subst HasOneOpen (sym c.in-Ok.ensures.ok) (jobs.one_open-want (recipes_of c.deref.result.now) (range c.args.first c.args.len (g.L.Lane.cells c.self.inside.lane)) c.self.inside.jobs.items c.self.invariant.one_open);
 }
