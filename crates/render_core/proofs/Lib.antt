@@ -1,3 +1,4 @@
 pub mod Ranges
 pub mod Jobs
 pub mod Turns
+pub mod Grows

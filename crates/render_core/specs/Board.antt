@@ -129,3 +129,9 @@ module _ {M F : Type 0} where
   Claims library old new pass (Ok (claims.Stopped len)) = (new ≡ old) × (len ≡ length old.journal) × IsTrue (state_of library old).is_stopped
   Claims library old new pass (Ok (claims.Idle len)) = (new ≡ old) × (len ≡ length old.journal) × ((state_of library old).is_stopped ≡ false) × (position is_queued (state_of library old).jobs ≡ None)
   Claims library old new pass (Err why) = ((state_of library old).is_stopped ≡ false) × IsSome (position is_queued (state_of library old).jobs) × Refuses library old new 2 why
+
+-- Room for some entries in a journal of so many, or why there is none.
+abbrev pub RoomFor : (len owing limit need room : ℕ) → Result Unit Full → Type 0
+RoomFor len owing limit need room (Ok done) = (len + owing + need ≤ limit) × (len + owing + need ≤ room)
+RoomFor len owing limit need room (Err (full.JournalFull told owes)) = (told ≡ len) × (owes ≡ owing) × (limit < len + owing + need)
+RoomFor len owing limit need room (Err full.NoMemory) = len + owing + need ≤ limit

@@ -1,6 +1,6 @@
 //! The board: the machine with its journal.
 
-ghost use Rattle.std.specs.Prelude.{◌≡◌, ◌≢◌, ℕ, ◌+◌, ◌-◌, ◌^◌, ◌<◌, ◌≤◌, List, [], length, Some, IfOk, OnOk, OnErr};
+ghost use Rattle.std.specs.Prelude.{◌≡◌, ◌≢◌, ℕ, ◌+◌, ◌-◌, ◌^◌, ◌<◌, ◌≤◌, List, [], length, Some, IfOk, OnOk, OnErr, MatchResult, vec_capacity};
 ghost use Rattle.std.specs.List.{position};
 ghost use Rattle.tl_model.specs.Edit.{IsEdit};
 ghost use Rattle.tl_model.specs.Media.{RenderedOf};
@@ -9,7 +9,7 @@ ghost use Rattle.tl_model.specs.declared.journal.Entry.{Entry};
 ghost use Rattle.render_core.specs.declared.reply.Full.TheVariants as full;
 ghost use Rattle.render_core.specs.State.{owed, Holds};
 ghost use Rattle.render_core.specs.Step.{IsJournal};
-ghost use Rattle.render_core.specs.Board.{BoardOf, state_of, IsSame, HasRoom};
+ghost use Rattle.render_core.specs.Board.{BoardOf, state_of, IsSame, HasRoom, MakesRoom, RoomFor, Does, Adds, Pays, Claims, of_edit, of_want, of_cancel, of_file, of_release, of_play};
 
 use crate::claim::{Claim, Stopper};
 use crate::machine::Machine;
@@ -94,5 +94,220 @@ impl<M: Media, L: Lane> Board<M, L> {
         }
         let more = self.owed + n as u64;
         self.journal.reserve(more as usize)
+    }
+
+    /// Room for `need` more entries beside those owed. The limit is tested before any want of memory.
+    fn make_room(&mut self, need: u64) -> Result<(), Full>
+        requires { need ≤ 2 }
+        ensures { MakesRoom M.library self.old self.new need result }
+    {
+        let len = self.journal.len() as u64;
+        if len + self.owed + need > self.limit {
+            return Err(Full::JournalFull {
+                len,
+                owed: self.owed,
+            });
+        }
+        if need <= self.spare() {
+            return Ok(());
+        }
+        match self.journal.reserve((self.owed + need) as usize) {
+            Ok(()) => Ok(()),
+            Err(_) => Err(Full::NoMemory),
+        }
+    }
+
+    /// Makes an edit. A refused one has its entry and changes nothing else; an accepted one closes each open job
+    /// whose recipe is no longer that of any frame.
+    pub fn edit(
+        &mut self,
+        alloc: Global,
+        by: u32,
+        media: &M,
+        edit: &Edit,
+    ) -> Result<EditReply, Full>
+        requires library { media.now ≡ self.old.library }
+        requires formed { IsEdit edit.now }
+        ensures { Does M.library self.old self.new by (act.Edit edit.now) of_edit result }
+    {
+        match self.make_room(1) {
+            Ok(()) => {}
+            Err(why) => return Err(why),
+        }
+        let Ok(copy) = edit.copy(alloc) else {
+            return Err(Full::NoMemory);
+        };
+        let at = self.journal.len() as u64 + 1;
+        match self.machine.edit(alloc, media, edit, at) {
+            Ok(reply) => {
+                self.journal.push_reserved(Entry {
+                    pass: by,
+                    act: Act::Edit(copy),
+                });
+                Ok(reply)
+            }
+            Err(why) => Err(why),
+        }
+    }
+
+    /// Wants the pictures of a range of frames: each recipe that isn't filed and has no open job gets the next job.
+    pub fn want(&mut self, by: u32, first: u32, len: u32) -> Result<WantReply, Full>
+        ensures { Does M.library self.old self.new by (act.Want first len) of_want result }
+    {
+        match self.make_room(1) {
+            Ok(()) => {}
+            Err(why) => return Err(why),
+        }
+        let at = self.journal.len() as u64 + 1;
+        match self.machine.want(at, first, len) {
+            Ok(reply) => {
+                self.journal.push_reserved(Entry {
+                    pass: by,
+                    act: Act::Want { first, len },
+                });
+                Ok(reply)
+            }
+            Err(why) => Err(why),
+        }
+    }
+
+    /// Cancels the wanted frames of a range: each open job with a recipe of the range is closed.
+    pub fn cancel(&mut self, by: u32, first: u32, len: u32) -> Result<CancelReply, Full>
+        ensures { Does M.library self.old self.new by (act.Cancel first len) of_cancel result }
+    {
+        match self.make_room(1) {
+            Ok(()) => {}
+            Err(why) => return Err(why),
+        }
+        let at = self.journal.len() as u64 + 1;
+        let reply = self.machine.cancel(at, first, len);
+        self.journal.push_reserved(Entry {
+            pass: by,
+            act: Act::Cancel { first, len },
+        });
+        Ok(reply)
+    }
+
+    /// Takes the lowest queued job. Room and memory for its end are kept, so that it can always be given back.
+    pub fn claim(&mut self, by: u32) -> Result<ClaimReply, Full>
+        ensures { Claims M.library self.old self.new by result }
+    {
+        let len = self.journal.len() as u64;
+        if self.machine.is_stopped() {
+            return Ok(ClaimReply::Stopped { len });
+        }
+        let Some(place) = self.machine.lowest_queued() else {
+            return Ok(ClaimReply::Idle { len });
+        };
+        match room_for(&mut self.journal, self.owed, self.limit, 2) {
+            Ok(()) => {}
+            Err(why) => return Err(why),
+        }
+        let claim = self.machine.claim(by, place);
+        self.journal.push_reserved(Entry {
+            pass: by,
+            act: Act::Claim,
+        });
+        self.owed += 1;
+        Ok(ClaimReply::Claimed(claim))
+    }
+
+    /// Ends a claim with its result, which is filed exactly where the job is still open. After want of memory the
+    /// claim and the result come back.
+    pub fn file(
+        &mut self,
+        by: u32,
+        claim: Claim,
+        rendered: Rendered<M>,
+    ) -> Result<FileReply, (Claim, Rendered<M>, AllocError)>
+        requires held { Holds (state_of M.library self.old) by claim.job claim.recipe }
+        requires rendered { rendered ≡ record { recipe = claim.recipe; library = self.old.library } }
+        ensures { MatchResult result (λ given. Pays M.library self.old self.new by (act.File claim.job) of_file given) (λ back. (self.new ≡ self.old) × (back.0 ≡ claim) × (back.1 ≡ rendered)) }
+    {
+        let job = claim.job();
+        let at = self.journal.len() as u64 + 1;
+        match self.machine.file(at, by, claim, rendered) {
+            Ok(reply) => {
+                self.journal.push_reserved(Entry {
+                    pass: by,
+                    act: Act::File { job },
+                });
+                self.owed -= 1;
+                Ok(reply)
+            }
+            Err((claim, rendered)) => Err((claim, rendered, AllocError)),
+        }
+    }
+
+    /// Gives a claim back; its job is queued again under its number, exactly where it is still open. It can't be refused.
+    pub fn release(&mut self, by: u32, claim: Claim) -> ReleaseReply
+        requires { Holds (state_of M.library self.old) by claim.job claim.recipe }
+        ensures { Pays M.library self.old self.new by (act.Release claim.job) of_release result }
+    {
+        let job = claim.job();
+        let reply = self.machine.release(by, claim);
+        self.journal.push_reserved(Entry {
+            pass: by,
+            act: Act::Release { job },
+        });
+        self.owed -= 1;
+        reply
+    }
+
+    /// Plays frame `n`: its picture, exactly where its recipe is filed.
+    pub fn play(&mut self, by: u32, n: u32) -> Result<PlayReply<M::Frame>, Full>
+        ensures { Does M.library self.old self.new by (act.Play n) of_play result }
+    {
+        match self.make_room(1) {
+            Ok(()) => {}
+            Err(why) => return Err(why),
+        }
+        match self.machine.play(n) {
+            Ok(reply) => {
+                self.journal.push_reserved(Entry {
+                    pass: by,
+                    act: Act::Play { n },
+                });
+                Ok(reply)
+            }
+            Err(why) => Err(why),
+        }
+    }
+
+    /// Stops the session. It can't be refused.
+    pub fn stop(&mut self, by: u32, stopper: Stopper)
+        requires main { by ≡ 0 }
+        requires once { (state_of M.library self.old).is_stopped ≡ false }
+        ensures added { Adds M.library self.old self.new by act.Stop }
+        ensures spare { self.new.spare ≡ self.old.spare }
+    {
+        let Stopper { of: () } = stopper;
+        self.machine.stop();
+        self.journal.push_reserved(Entry {
+            pass: by,
+            act: Act::Stop,
+        });
+        self.owed -= 1;
+    }
+}
+
+/// Room in a journal for `need` more entries beside those owed. The limit is tested before any want of memory.
+fn room_for(journal: &mut Vec<Entry>, owed: u64, limit: u64, need: u64) -> Result<(), Full>
+    requires within { length journal.old.items + owed ≤ limit }
+    requires few { limit ≤ 2 ^ 40 }
+    requires need { need ≤ 2 }
+    requires kept { length journal.old.items + owed ≤ vec_capacity journal.old }
+    ensures items { journal.new.items ≡ journal.old.items }
+    ensures room { RoomFor (length journal.old.items) owed limit need (vec_capacity journal.new) result }
+    ensures kept { vec_capacity journal.old ≤ vec_capacity journal.new }
+    ensures err { OnErr result (vec_capacity journal.new ≡ vec_capacity journal.old) }
+{
+    let len = journal.len() as u64;
+    if len + owed + need > limit {
+        return Err(Full::JournalFull { len, owed });
+    }
+    match journal.reserve((owed + need) as usize) {
+        Ok(()) => Ok(()),
+        Err(_) => Err(Full::NoMemory),
     }
 }
