@@ -1,9 +1,11 @@
 -- A board with one entry more, over plain values.
-use Rattle.std.proofs.Common.{◌≡◌, ℕ, zero, suc, ◌+◌, ◌-◌, ◌<◌, ◌≤◌, cond, not, Bool, true, false, ◌&&◌, ◌||◌, List, [], ◌∷◌, ◌++◌, length, take, map, Option, Some, None, Result, Ok, Err, refl, sym, ap, subst, ◌∙◌, arith}
+use Rattle.std.proofs.Common.{◌≡◌, ℕ, zero, suc, ◌+◌, ◌-◌, ◌<◌, ◌≤◌, cond, not, Bool, true, false, ◌&&◌, ◌||◌, List, [], ◌∷◌, ◌++◌, length, get_or, take, map, Option, Some, None, Result, Ok, Err, refl, sym, ap, subst, ◌∙◌, arith}
 use Rattle.std.specs.Prelude.{slice_get, is_some, is_none, IsSome}
 use Rattle.std.specs.List.{count_by, position}
 use Rattle.std.proofs.lemmas.List.{length_push}
-use Rattle.std.proofs.lemmas.Option.{same_Some}
+use Rattle.std.proofs.lemmas.Option.{same_Some, slice_get-get_or}
+use Rattle.std.proofs.lemmas.List.Quantifiers.{position-Some}
+use Rattle.tl_model.specs.declared.recipe.Recipe.TheVariants as recipe
 use Rattle.tl_model.specs.Media.{Library}
 use Rattle.tl_model.specs.declared.recipe.Recipe.{Recipe}
 use Rattle.tl_model.specs.declared.edit.EditRefusal.{EditRefusal}
@@ -16,7 +18,7 @@ use Rattle.render_core.specs.declared.job.Job.{Job}
 use Rattle.render_core.specs.declared.reply.Full.{Full}
 use Rattle.render_core.specs.declared.reply.Full.TheVariants as full
 use Rattle.render_core.specs.State.{State, is_open, is_held, is_queued, held, let_go, ended, close_if, update, has_open, want_one, want_all, range, without, put_first, owed, Holds}
-use Rattle.render_core.specs.Step.{Reply, IsLegal, step, reply, after, state_after, AreLegal, IsJournal, edited, with_jobs, wanted, played}
+use Rattle.render_core.specs.Step.{Reply, IsLegal, step, reply, after, state_after, AreLegal, IsJournal, edited, with_jobs, wanted, claimed, filed, played}
 use Rattle.render_core.specs.Parts.{MachineOf, in_state}
 use Rattle.render_core.specs.Board.{BoardOf, state_of, IsSame, HasRoom, Adds, Refuses, Does, Pays, IsBoard, MakesRoom}
 use Rattle.render_core.proofs.Jobs.{weight, count_map_same, count_update, count_push}
@@ -130,3 +132,88 @@ unmoved {M} library old mid m next limit journal spare spare' need v same room t
   },
   room,
 )
+
+pub grown : {M F : Type 0} (library : M → Library F) (om nm : MachineOf M) (at pass : ℕ) (what : Act) (journal longer : List Entry) (limit owing room owing' room' : ℕ) → IsBoard (library om.library) om.cache om.state journal limit owing room → IsLegal pass what om.state → at ≡ length journal + 1 → nm ≡ in_state (step (library om.library) om.cache at pass what om.state) om → longer ≡ journal ++ record { pass = pass; act = what } ∷ [] → owing' ≡ owed (step (library om.library) om.cache at pass what om.state) → length journal + 1 + owing' ≤ limit → length journal + 1 + owing' ≤ room' → IsBoard (library nm.library) nm.cache nm.state longer limit owing' room'
+grown {M} library om nm at pass what journal longer limit owing room owing' room' b legal here turn is owes within kept =
+    let next = step (library om.library) om.cache at pass what om.state in
+    subst (λ (x : MachineOf M). IsBoard (library x.library) x.cache x.state longer limit owing' room') (sym turn)
+    (grows (library om.library) om.cache om.state next journal longer limit owing room (record { pass = pass; act = what }) owing' room' b legal (ap (λ (k : ℕ). step (library om.library) om.cache k pass what om.state) here) is owes within kept)
+
+pub room_inside : {M F : Type 0} (library : M → Library F) (old mid : BoardOf M) (m : MachineOf M) (journal : List Entry) (limit owing room spare need : ℕ) → view_of m limit journal spare ≡ mid → IsSame old mid → IsBoard (library m.library) m.cache m.state journal limit owing room → HasRoom library old need → length journal + owing + need ≤ limit
+room_inside {M} library old mid m journal limit owing room spare need v same b h =
+    let a = ap owed (state_from library old mid m limit journal spare v same b.stands) in
+    let c = ap length (ap (λ (x : BoardOf M). x.journal) v ∙ same.journal) in
+    let d = ap (λ (x : BoardOf M). x.limit) v ∙ same.limit in
+    omega (arith, a, c, d, b.owes, h)
+
+-- a call that needed one entry
+pub grown_one : {M F : Type 0} (library : M → Library F) (old mid : BoardOf M) (om nm : MachineOf M) (at pass : ℕ) (what : Act) (journal longer : List Entry) (limit owing len cap cap' : ℕ) → view_of om limit journal (cap - (len + owing)) ≡ mid → IsBoard (library om.library) om.cache om.state journal limit owing cap → len ≡ length journal → IsSame old mid → HasRoom library old 1 → 1 ≤ mid.spare → IsLegal pass what om.state → at ≡ len + 1 → nm ≡ in_state (step (library om.library) om.cache at pass what om.state) om → longer ≡ journal ++ record { pass = pass; act = what } ∷ [] → owed (step (library om.library) om.cache at pass what om.state) ≡ owed om.state → cap' ≡ cap → IsBoard (library nm.library) nm.cache nm.state longer limit owing cap'
+grown_one {M} library old mid om nm at pass what journal longer limit owing len cap cap' v b is_len same room spare legal here turn is owes is_cap =
+    let within = room_inside library old mid om journal limit owing cap (cap - (len + owing)) 1 v same b room in
+    let left : cap - (len + owing) ≡ mid.spare = ap (λ (x : BoardOf M). x.spare) v in
+    grown library om nm at pass what journal longer limit owing cap owing cap' b legal (omega arith) turn is (b.owes ∙ sym owes) (omega arith) (omega arith)
+
+-- a held job is owed
+pub owed-let_go : (s : State) (pass n : ℕ) (recipe : Recipe) → Holds s pass n recipe → owed (with_jobs (update (n - 1) let_go s.jobs) s) + 1 ≡ owed s
+owed-let_go s pass n recipe h =
+    let e = count_update is_held let_go s.jobs (n - 1) (record { recipe = recipe; holder = Some pass; closed = h.closed }) h.is_job in
+    omega (arith, e)
+
+owed-ended : (s : State) (filed : List Recipe) (at pass n : ℕ) (recipe : Recipe) → Holds s pass n recipe → owed (record { line = s.line; jobs = update (n - 1) (ended at) s.jobs; filed = filed; is_stopped = s.is_stopped }) + 1 ≡ owed s
+owed-ended s filed at pass n recipe h =
+    let e = count_update is_held (ended at) s.jobs (n - 1) (record { recipe = recipe; holder = Some pass; closed = h.closed }) h.is_job in
+    omega (arith, e)
+
+owed-filed_by : (cache at pass n : ℕ) (recipe : Recipe) (s : State) → Holds s pass n recipe → (b : Bool) → owed (cond b (record { line = s.line; jobs = update (n - 1) (ended at) s.jobs; filed = take cache (recipe ∷ s.filed); is_stopped = s.is_stopped }) (with_jobs (update (n - 1) let_go s.jobs) s)) + 1 ≡ owed s
+owed-filed_by cache at pass n recipe s h true = owed-ended s (take cache (recipe ∷ s.filed)) at pass n recipe h
+owed-filed_by cache at pass n recipe s h false = owed-let_go s pass n recipe h
+
+pub owed-filed : (cache at pass n : ℕ) (recipe : Recipe) (s : State) → Holds s pass n recipe → owed (filed cache at (n - 1) (slice_get s.jobs (n - 1)) s) + 1 ≡ owed s
+owed-filed cache at pass n recipe s h = ap (λ (o : Option Job). owed (filed cache at (n - 1) o s) + 1) h.is_job ∙ owed-filed_by cache at pass n recipe s h (is_none h.closed)
+
+-- a call whose entry was owed
+pub grown_owed : {M F : Type 0} (library : M → Library F) (om nm : MachineOf M) (at pass : ℕ) (what : Act) (journal longer : List Entry) (limit owing cap cap' : ℕ) → IsBoard (library om.library) om.cache om.state journal limit owing cap → IsLegal pass what om.state → at ≡ length journal + 1 → nm ≡ in_state (step (library om.library) om.cache at pass what om.state) om → longer ≡ journal ++ record { pass = pass; act = what } ∷ [] → owed (step (library om.library) om.cache at pass what om.state) + 1 ≡ owed om.state → cap' ≡ cap → IsBoard (library nm.library) nm.cache nm.state longer limit (owing - 1) cap'
+grown_owed library om nm at pass what journal longer limit owing cap cap' b legal here turn is owes is_cap =
+    grown library om nm at pass what journal longer limit owing cap (owing - 1) cap' b legal here turn is (omega (arith, b.owes, owes)) (omega (arith, b.owes, owes, b.within)) (omega (arith, b.owes, owes, b.kept))
+
+pub Holds-inside : {M F : Type 0} (library : M → Library F) (old : BoardOf M) (m : MachineOf M) (limit : ℕ) (journal : List Entry) (spare pass n : ℕ) (recipe : Recipe) → view_of m limit journal spare ≡ old → m.state ≡ state_after (library m.library) m.cache journal → Holds (state_of library old) pass n recipe → Holds m.state pass n recipe
+Holds-inside library old m limit journal spare pass n recipe v stands h = subst (λ (s : State). Holds s pass n recipe) (sym (stands ∙ ap (state_of library) v)) h
+
+pub pays : {M F R : Type 0} (library : M → Library F) (old : BoardOf M) (om nm : MachineOf M) (at pass : ℕ) (what : Act) (journal longer : List Entry) (limit owing len len' cap cap' : ℕ) (view : R → Reply F) (given : R) → view_of om limit journal (cap - (len + owing)) ≡ old → om.state ≡ state_after (library om.library) om.cache journal → IsLegal pass what om.state → nm ≡ in_state (step (library om.library) om.cache at pass what om.state) om → longer ≡ journal ++ record { pass = pass; act = what } ∷ [] → view given ≡ reply (library om.library) what om.state → 1 ≤ owing → len' ≡ len + 1 → cap' ≡ cap → Pays library old (view_of nm limit longer (cap' - (len' + (owing - 1)))) pass what view given
+pays {M} library old om nm at pass what journal longer limit owing len len' cap cap' view given v stands legal turn is told some is_len is_cap =
+    let same : IsSame old old = record { library = refl; cache = refl; limit = refl; journal = refl } in
+    let left : cap' - (len' + (owing - 1)) ≡ cap - (len + owing) = omega arith in
+    record {
+      added = adds library old old om nm limit journal longer (cap - (len + owing)) (cap' - (len' + (owing - 1))) pass what (step (library om.library) om.cache at pass what om.state) v same stands legal turn is;
+      replied = replies library old old om limit journal (cap - (len + owing)) what (view given) v same stands told;
+      spare = left ∙ ap (λ (x : BoardOf M). x.spare) v;
+    }
+
+pub owed-stop : (s : State) → s.is_stopped ≡ false → owed (record { line = s.line; jobs = s.jobs; filed = s.filed; is_stopped = true }) + 1 ≡ owed s
+owed-stop s e =
+    let one : cond {A = ℕ} s.is_stopped 0 1 ≡ 1 = ap (λ (b : Bool). cond {A = ℕ} b 0 1) e in
+    let zero_one : owed (record { line = s.line; jobs = s.jobs; filed = s.filed; is_stopped = true }) ≡ 0 + count_by is_held s.jobs = refl in
+    let was : owed s ≡ 1 + count_by is_held s.jobs = ap (λ (k : ℕ). k + count_by is_held s.jobs) one in
+    omega (arith, zero_one, was)
+
+not_held : (job : Job) → is_queued job ≡ true → weight is_held job ≡ 0
+not_held job e = by_parts (is_open job) (is_held job) e
+  where
+    by_parts : (a b : Bool) → (a && not b) ≡ true → cond {A = ℕ} b 1 0 ≡ 0
+    by_parts true false e = refl
+    by_parts true true e = absurd cc
+    by_parts false b e = absurd cc
+
+pub owed-claimed : (pass place : ℕ) (s : State) → position is_queued s.jobs ≡ Some place → owed (claimed pass (position is_queued s.jobs) s) ≡ owed s + 1
+owed-claimed pass place s e =
+    let none : Job = record { recipe = recipe.Black; holder = None; closed = None } in
+    let found = position-Some is_queued s.jobs place none e in
+    let job = get_or s.jobs place none in
+    let free = not_held job found.1 in
+    let c = count_update is_held (held pass) s.jobs place job (slice_get-get_or s.jobs place none found.0) in
+    let more : owed (claimed pass (Some place) s) ≡ owed s + 1 = omega (arith, c, free) in
+    ap (λ (o : Option ℕ). owed (claimed pass o s)) e ∙ more
+
+pub some_of : {A : Type 0} (o : Option A) (x : A) → o ≡ Some x → IsSome o
+some_of None x e = absurd cc
+some_of (Some y) x e = refl

@@ -1,6 +1,6 @@
 //! The board: the machine with its journal.
 
-ghost use Rattle.std.specs.Prelude.{◌≡◌, ◌≢◌, ℕ, ◌+◌, ◌-◌, ◌^◌, ◌<◌, ◌≤◌, List, [], length, Some, IfOk, OnOk, OnErr, MatchResult, vec_capacity};
+ghost use Rattle.std.specs.Prelude.{◌≡◌, ◌≢◌, ℕ, ◌+◌, ◌-◌, ◌^◌, ◌<◌, ◌≤◌, List, [], length, Some, IfOk, OnOk, OnErr, MatchResult, vec_capacity, false, Err};
 ghost use Rattle.std.specs.List.{position};
 ghost use Rattle.tl_model.specs.Edit.{IsEdit};
 ghost use Rattle.tl_model.specs.Media.{RenderedOf};
@@ -173,7 +173,9 @@ impl<M: Media, L: Lane> Board<M, L> {
 
     /// Cancels the wanted frames of a range: each open job with a recipe of the range is closed.
     pub fn cancel(&mut self, by: u32, first: u32, len: u32) -> Result<CancelReply, Full>
-        ensures { Does M.library self.old self.new by (act.Cancel first len) of_cancel result }
+        ensures done { Does M.library self.old self.new by (act.Cancel first len) of_cancel result }
+        ensures sure { 1 ≤ self.old.spare → result ≢ Err full.NoMemory }
+        ensures uses { 1 ≤ self.old.spare → OnOk result (self.new.spare + 1 ≡ self.old.spare) }
     {
         match self.make_room(1) {
             Ok(()) => {}
@@ -256,7 +258,8 @@ impl<M: Media, L: Lane> Board<M, L> {
 
     /// Plays frame `n`: its picture, exactly where its recipe is filed.
     pub fn play(&mut self, by: u32, n: u32) -> Result<PlayReply<M::Frame>, Full>
-        ensures { Does M.library self.old self.new by (act.Play n) of_play result }
+        ensures done { Does M.library self.old self.new by (act.Play n) of_play result }
+        ensures uses { 1 ≤ self.old.spare → OnOk result (self.new.spare + 1 ≡ self.old.spare) }
     {
         match self.make_room(1) {
             Ok(()) => {}
