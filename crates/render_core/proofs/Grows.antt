@@ -1,9 +1,9 @@
 -- A board with one entry more, over plain values.
-use Rattle.std.proofs.Common.{◌≡◌, ℕ, zero, suc, ◌+◌, ◌-◌, ◌<◌, ◌≤◌, cond, not, Bool, true, false, ◌&&◌, ◌||◌, List, [], ◌∷◌, ◌++◌, length, get_or, take, map, Option, Some, None, Result, Ok, Err, refl, sym, ap, subst, ◌∙◌, arith}
-use Rattle.std.specs.Prelude.{slice_get, is_some, is_none, IsSome}
+use Rattle.std.proofs.Common.{◌≡◌, ℕ, suc, ◌+◌, ◌-◌, ◌≤◌, cond, not, Bool, true, false, ◌&&◌, ◌||◌, List, [], ◌∷◌, ◌++◌, length, get_or, take, map, Option, Some, None, Result, Ok, Err, refl, sym, ap, subst, ◌∙◌, arith}
+use Rattle.std.specs.Prelude.{slice_get, is_none, IsSome}
 use Rattle.std.specs.List.{count_by, position}
 use Rattle.std.proofs.lemmas.List.{length_push}
-use Rattle.std.proofs.lemmas.Option.{same_Some, slice_get-get_or}
+use Rattle.std.proofs.lemmas.Option.{slice_get-get_or}
 use Rattle.std.proofs.lemmas.List.Quantifiers.{position-Some}
 use Rattle.tl_model.specs.declared.recipe.Recipe.TheVariants as recipe
 use Rattle.tl_model.specs.Media.{Library}
@@ -13,14 +13,13 @@ use Rattle.tl_model.specs.declared.journal.Act.{Act}
 use Rattle.tl_model.specs.declared.journal.Act.TheVariants as act
 use Rattle.tl_model.specs.declared.journal.Entry.{Entry}
 use Rattle.time_list.specs.Cells.{Cell, is_among, recipes}
-use Rattle.time_list.specs.Apply.{apply}
 use Rattle.render_core.specs.declared.job.Job.{Job}
 use Rattle.render_core.specs.declared.reply.Full.{Full}
 use Rattle.render_core.specs.declared.reply.Full.TheVariants as full
-use Rattle.render_core.specs.State.{State, is_open, is_held, is_queued, held, let_go, ended, close_if, update, has_open, want_one, want_all, range, without, put_first, owed, Holds}
+use Rattle.render_core.specs.State.{State, is_open, is_held, is_queued, held, let_go, ended, close_if, update, has_open, want_one, want_all, range, put_first, owed, Holds}
 use Rattle.render_core.specs.Step.{Reply, IsLegal, step, reply, after, state_after, AreLegal, IsJournal, edited, with_jobs, wanted, claimed, filed, played}
 use Rattle.render_core.specs.Parts.{MachineOf, in_state}
-use Rattle.render_core.specs.Board.{BoardOf, state_of, IsSame, HasRoom, Adds, Refuses, Does, Pays, IsBoard, MakesRoom}
+use Rattle.render_core.specs.Board.{BoardOf, state_of, IsSame, HasRoom, Adds, Refuses, Pays, IsBoard, MakesRoom}
 use Rattle.render_core.proofs.Jobs.{weight, count_map_same, count_update, count_push}
 
 after-append : {F : Type 0} (lib : Library F) (cache count : ℕ) (es : List Entry) (e : Entry) (s : State) → after lib cache count (es ++ e ∷ []) s ≡ step lib cache (count + length es + 1) e.pass e.act (after lib cache count es s)

@@ -4,8 +4,8 @@ use Rattle.std.specs.Prelude.{slice_get}
 use Rattle.std.proofs.lemmas.List.{append_assoc, take_all, drop_all, append-nil}
 use Rattle.tl_model.specs.declared.recipe.Recipe.{Recipe}
 use Rattle.render_core.specs.declared.job.Job.{Job}
-use Rattle.render_core.specs.State.{is_open, held, let_go, ended, close_if, update, has_open, range, want_one, want_all}
-use Rattle.std.specs.List.{count_by, list_any, sum_by}
+use Rattle.render_core.specs.State.{is_open, held, let_go, ended, close_if, update, has_open, want_one, want_all}
+use Rattle.std.specs.List.{count_by, list_any}
 use Rattle.std.proofs.lemmas.Bool.Decides.{nat_tests}
 use Rattle.std.proofs.lemmas.Option.{slice_get_read}
 use Rattle.std.proofs.lemmas.List.Sums.{sum_by-cons, sum_by-append, count_by_more_yes, count_by_more_no, count_by-le-length}

@@ -1,14 +1,13 @@
 -- The machine's turns, over plain values.
-use Rattle.std.proofs.Common.{◌≡◌, ℕ, zero, suc, ◌+◌, ◌-◌, ◌<◌, ◌≤◌, cond, Bool, true, false, List, [], ◌∷◌, ◌++◌, length, take, drop, map, Option, Some, None, Result, Ok, Err, refl, sym, ap, subst, ◌∙◌, arith}
+use Rattle.std.proofs.Common.{◌≡◌, ℕ, zero, suc, ◌<◌, cond, Bool, true, false, List, [], ◌∷◌, ◌++◌, length, take, drop, map, Option, Some, None, Result, Ok, Err, sym, ap, subst, ◌∙◌, arith}
 use Rattle.std.specs.Prelude.{slice_get, is_none}
-use Rattle.std.specs.List.{remove, insert}
+use Rattle.std.specs.List.{remove}
 use Rattle.std.proofs.lemmas.Option.{same_Some}
 use Rattle.tl_model.specs.Media.{Library}
 use Rattle.std.proofs.lemmas.List.{map-append, take-map, drop-map, length-map}
 use Rattle.tl_model.specs.Media.{RenderedOf}
 use Rattle.tl_model.specs.declared.recipe.Recipe.{Recipe}
 use Rattle.tl_model.specs.declared.edit.EditRefusal.{EditRefusal}
-use Rattle.time_list.specs.declared.lane.ApplyFault.{ApplyFault}
 use Rattle.time_list.specs.Cells.{Cell, recipes, is_among}
 use Rattle.time_list.specs.Apply.{Applies}
 use Rattle.render_core.specs.declared.job.Job.{Job}

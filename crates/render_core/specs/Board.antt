@@ -1,10 +1,8 @@
 -- The board as contracts see it, and what its calls answer.
-use Rattle.std.specs.Prelude.{◌≡◌, ℕ, ◌+◌, ◌-◌, ◌<◌, ◌≤◌, ◌^◌, if◌then◌else◌, Bool, true, false, List, [], ◌∷◌, ◌++◌, map, length, slice_get, Option, Some, None, IsSome, IsTrue, Result, Ok, Err}
+use Rattle.std.specs.Prelude.{◌≡◌, ℕ, ◌+◌, ◌<◌, ◌≤◌, ◌^◌, false, List, [], ◌∷◌, ◌++◌, length, None, IsSome, IsTrue, Result, Ok, Err}
 use Rattle.std.specs.Arc.{arc_value}
 use Rattle.std.specs.List.{position}
-use Rattle.std.specs.declared.alloc.AllocError.{AllocError}
-use Rattle.tl_model.specs.Media.{Library, RenderedOf}
-use Rattle.tl_model.specs.declared.recipe.Recipe.{Recipe}
+use Rattle.tl_model.specs.Media.{Library}
 use Rattle.tl_model.specs.declared.edit.EditReply.{EditReply}
 use Rattle.tl_model.specs.declared.journal.Act.{Act}
 use Rattle.tl_model.specs.declared.journal.Act.TheVariants as act

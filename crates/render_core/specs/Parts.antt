@@ -1,5 +1,5 @@
 -- What the parts of the machine's code keep and answer.
-use Rattle.std.specs.Prelude.{◌≡◌, ℕ, ◌+◌, ◌<◌, ◌≤◌, ◌&&◌, Bool, true, false, List, [], ◌∷◌, map, length, slice_get, Option, Some, None}
+use Rattle.std.specs.Prelude.{◌≡◌, ℕ, ◌<◌, ◌≤◌, ◌&&◌, true, false, List, [], ◌∷◌, map, length, slice_get, Option, Some, None}
 use Rattle.std.specs.List.{count_by, remove}
 use Rattle.tl_model.specs.Media.{Library, RenderedOf}
 use Rattle.tl_model.specs.Recipe.{same_recipe}

@@ -1,5 +1,5 @@
 -- The state of the machine: the timeline, the jobs, and the recipes of the filed results, latest first.
-use Rattle.std.specs.Prelude.{◌≡◌, ℕ, zero, suc, ◌+◌, ◌-◌, ◌≤◌, if◌then◌else◌, not, ◌&&◌, ◌||◌, Bool, true, false, List, [], ◌∷◌, ◌++◌, map, take, drop, slice_get, Option, Some, None, is_some, is_none}
+use Rattle.std.specs.Prelude.{◌≡◌, ℕ, zero, suc, ◌+◌, ◌-◌, ◌≤◌, if◌then◌else◌, not, ◌&&◌, ◌||◌, Bool, false, List, [], ◌∷◌, ◌++◌, take, drop, slice_get, Option, Some, None, is_some, is_none}
 use Rattle.std.specs.List.{count_by, list_any}
 use Rattle.tl_model.specs.Recipe.{same_recipe}
 use Rattle.tl_model.specs.declared.recipe.Recipe.{Recipe}

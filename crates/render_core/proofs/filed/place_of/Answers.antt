@@ -1,4 +1,4 @@
-use Rattle.std.proofs.Common.{sym, ◌∙◌, arith}
+use Rattle.std.proofs.Common.{sym, ◌∙◌}
 use Rattle.render_core.specs.Parts.{recipes_of}
 use Rattle.render_core.proofs.Ranges.{filed_item, left_next, left_here}
 use Rattle.render_core.proofs.filed.place_of.Goals as goal

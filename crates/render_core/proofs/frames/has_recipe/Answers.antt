@@ -1,7 +1,5 @@
-use Rattle.std.proofs.Common.{◌≡◌, ◌+◌, ◌-◌, Bool, true, false, ◌||◌, take, drop, sym, ap, ◌∙◌, arith}
-use Rattle.tl_model.specs.Recipe.{same_recipe}
-use Rattle.time_list.specs.Cells.{recipes, is_among}
-use Rattle.render_core.specs.State.{range}
+use Rattle.std.proofs.Common.{◌≡◌, ◌+◌, Bool, true, false, ◌||◌, sym, ◌∙◌, arith}
+use Rattle.time_list.specs.Cells.{recipes}
 use Rattle.render_core.proofs.Ranges.{among_next}
 use Rattle.render_core.proofs.frames.has_recipe.Goals as goal
 

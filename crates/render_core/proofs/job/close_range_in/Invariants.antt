@@ -1,5 +1,5 @@
-use Rattle.std.proofs.Common.{◌≡◌, ◌++◌, map, take, drop, not}
-use Rattle.time_list.specs.Cells.{recipes, is_among}
+use Rattle.std.proofs.Common.{◌≡◌, ◌++◌, map, take, drop}
+use Rattle.time_list.specs.Cells.{is_among}
 use Rattle.render_core.specs.State.{close_if, range}
 use Rattle.render_core.proofs.job.close_range_in.Given as goal
 

@@ -1,6 +1,6 @@
 use Rattle.std.proofs.Common.{◌≡◌, ◌++◌, map, take, drop, not}
 use Rattle.time_list.specs.Cells.{recipes, is_among}
-use Rattle.render_core.specs.State.{close_if, range}
+use Rattle.render_core.specs.State.{close_if}
 use Rattle.render_core.proofs.job.close_unused_in.Given as goal
 
 abbrev pub invariant-loop-job : goal.invariant-loop-job

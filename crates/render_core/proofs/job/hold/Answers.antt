@@ -1,4 +1,3 @@
-use Rattle.std.proofs.Common.{arith}
 use Rattle.render_core.specs.State.{held}
 use Rattle.render_core.proofs.Jobs.{update_is, read_is}
 use Rattle.render_core.proofs.job.hold.Goals as goal

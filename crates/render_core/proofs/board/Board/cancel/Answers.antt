@@ -1,10 +1,7 @@
-use Rattle.std.proofs.Common.{◌≡◌, ◌+◌, ◌-◌, ap, refl, sym, subst, ◌∙◌, arith, length}
-use Rattle.std.specs.Prelude.{slice_get, vec_len, vec_capacity}
+use Rattle.std.proofs.Common.{◌+◌, arith}
+use Rattle.std.specs.Prelude.{vec_len, vec_capacity}
 use Rattle.tl_model.specs.declared.journal.Act.TheVariants as act
-use Rattle.time_list.specs.Cells.{recipes}
-use Rattle.time_list.specs.Apply.{apply}
-use Rattle.render_core.specs.Board.{of_file, of_release}
-use Rattle.render_core.proofs.Grows.{grown, grown_one, grown_owed, pays, Holds-inside, owed-edited, owed-want, owed-cancel, owed-played, owed-let_go, owed-filed}
+use Rattle.render_core.proofs.Grows.{grown_one, owed-cancel}
 use Rattle.render_core.proofs.board.Board.cancel.Goals as goal
 
 pub invariant_of-self : goal.invariant_of-self

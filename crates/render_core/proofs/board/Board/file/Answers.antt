@@ -1,10 +1,8 @@
-use Rattle.std.proofs.Common.{◌≡◌, ◌++◌, ◌∷◌, [], ◌+◌, ◌-◌, ap, refl, sym, subst, ◌∙◌, arith, length}
-use Rattle.std.specs.Prelude.{slice_get, vec_len, vec_capacity}
+use Rattle.std.proofs.Common.{◌≡◌, ◌++◌, ◌∷◌, [], ◌+◌, subst, arith}
+use Rattle.std.specs.Prelude.{vec_len, vec_capacity}
 use Rattle.tl_model.specs.declared.journal.Act.TheVariants as act
-use Rattle.time_list.specs.Cells.{recipes}
-use Rattle.time_list.specs.Apply.{apply}
-use Rattle.render_core.specs.Board.{of_file, of_release}
-use Rattle.render_core.proofs.Grows.{grown, grown_one, grown_owed, pays, Holds-inside, owed-edited, owed-want, owed-cancel, owed-played, owed-let_go, owed-filed}
+use Rattle.render_core.specs.Board.{of_file}
+use Rattle.render_core.proofs.Grows.{grown_owed, pays, Holds-inside, owed-filed}
 use Rattle.render_core.proofs.board.Board.file.Goals as goal
 
 pub push_reserved-requires : goal.push_reserved-requires

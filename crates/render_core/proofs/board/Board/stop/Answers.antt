@@ -1,12 +1,9 @@
-use Rattle.std.proofs.Common.{◌≡◌, ◌+◌, ◌-◌, ◌++◌, ◌∷◌, [], List, Option, ℕ, ap, refl, sym, ◌∙◌, arith, length}
-use Rattle.std.specs.Prelude.{vec_len, vec_capacity}
+use Rattle.std.proofs.Common.{◌≡◌, ◌+◌, ap, refl, ◌∙◌, length}
+use Rattle.std.specs.Prelude.{vec_capacity}
 use Rattle.tl_model.specs.declared.journal.Act.TheVariants as act
-use Rattle.tl_model.specs.declared.journal.Entry.{Entry}
 use Rattle.render_core.specs.State.{State}
-use Rattle.render_core.specs.Step.{claimed}
-use Rattle.render_core.specs.Parts.{in_state}
 use Rattle.render_core.specs.Board.{state_of}
-use Rattle.render_core.proofs.Grows.{grown, grown_owed, owed-stop, owed-claimed, some_of}
+use Rattle.render_core.proofs.Grows.{grown_owed, owed-stop}
 use Rattle.render_core.proofs.board.Board.stop.Goals as goal
 
 pub invariant_of-self : goal.invariant_of-self

@@ -1,5 +1,5 @@
-use Rattle.std.proofs.Common.{◌≡◌, ◌+◌, ◌-◌, ◌≤◌, List, length, sym, subst, ap, ◌∙◌, arith}
-use Rattle.render_core.specs.Parts.{HasOneOpen, recipes_of}
+use Rattle.std.proofs.Common.{◌≡◌, sym, subst, ap, ◌∙◌, arith}
+use Rattle.render_core.specs.Parts.{HasOneOpen}
 use Rattle.render_core.specs.State.{range}
 use Rattle.std.proofs.Common.{drop}
 use Rattle.std.specs.List.{count_by}

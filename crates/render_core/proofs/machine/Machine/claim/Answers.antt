@@ -1,6 +1,5 @@
-use Rattle.std.proofs.Common.{◌≡◌, ◌+◌, ◌-◌, ◌≤◌, List, length, sym, subst, ap, ◌∙◌, arith}
-use Rattle.render_core.specs.Parts.{HasOneOpen, recipes_of}
-use Rattle.render_core.specs.State.{range}
+use Rattle.std.proofs.Common.{sym, subst}
+use Rattle.render_core.specs.Parts.{HasOneOpen}
 use Rattle.render_core.proofs.Jobs as jobs
 use Rattle.render_core.proofs.machine.Machine.claim.Goals as goal
 

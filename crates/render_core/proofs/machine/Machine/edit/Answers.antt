@@ -1,6 +1,5 @@
-use Rattle.std.proofs.Common.{◌≡◌, ◌+◌, ◌-◌, ◌≤◌, List, length, sym, subst, ap, ◌∙◌, arith}
-use Rattle.render_core.specs.Parts.{HasOneOpen, recipes_of}
-use Rattle.render_core.specs.State.{range}
+use Rattle.std.proofs.Common.{sym, subst, ap, ◌∙◌}
+use Rattle.render_core.specs.Parts.{HasOneOpen}
 use Rattle.time_list.specs.Apply.{apply, IsSound}
 use Rattle.render_core.specs.Parts.{MachineOf}
 use Rattle.render_core.proofs.Turns.{applied}

@@ -1,4 +1,4 @@
-use Rattle.std.proofs.Common.{◌≡◌, ◌+◌, ◌-◌, ◌≤◌, List, length, sym, subst, ap, ◌∙◌, arith}
+use Rattle.std.proofs.Common.{sym, subst}
 use Rattle.render_core.specs.Parts.{HasOneOpen, recipes_of}
 use Rattle.render_core.specs.State.{range}
 use Rattle.render_core.proofs.Jobs as jobs
