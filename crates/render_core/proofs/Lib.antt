@@ -2,3 +2,4 @@ pub mod Ranges
 pub mod Jobs
 pub mod Turns
 pub mod Grows
+pub mod Claims

@@ -1,6 +1,6 @@
 //! The board: the machine with its journal.
 
-ghost use Rattle.std.specs.Prelude.{◌≡◌, ◌≢◌, ℕ, ◌+◌, ◌-◌, ◌^◌, ◌<◌, ◌≤◌, List, [], length, Some, IfOk, OnOk, OnErr, MatchResult, vec_capacity, false, Err};
+ghost use Rattle.std.specs.Prelude.{◌≡◌, ◌≢◌, ℕ, ◌+◌, ◌-◌, ◌^◌, ◌<◌, ◌≤◌, List, [], ◌++◌, length, Some, IfOk, OnOk, OnErr, MatchResult, vec_capacity, false, Err};
 ghost use Rattle.std.specs.List.{position};
 ghost use Rattle.tl_model.specs.Edit.{IsEdit};
 ghost use Rattle.tl_model.specs.Media.{RenderedOf};
@@ -8,7 +8,9 @@ ghost use Rattle.tl_model.specs.declared.journal.Act.TheVariants as act;
 ghost use Rattle.tl_model.specs.declared.journal.Entry.{Entry};
 ghost use Rattle.render_core.specs.declared.reply.Full.TheVariants as full;
 ghost use Rattle.render_core.specs.State.{owed, Holds};
-ghost use Rattle.render_core.specs.Step.{IsJournal};
+ghost use Rattle.render_core.specs.Claim.{EndsNone};
+ghost use Rattle.render_core.specs.Step.{IsJournal, state_after};
+ghost use Rattle.tl_model.specs.declared.recipe.Recipe.{Recipe};
 ghost use Rattle.render_core.specs.Board.{BoardOf, state_of, IsSame, HasRoom, MakesRoom, RoomFor, Does, Adds, Pays, Claims, of_edit, of_want, of_cancel, of_file, of_release, of_play};
 
 use crate::claim::{Claim, Stopper};
@@ -75,6 +77,11 @@ impl<M: Media, L: Lane> Board<M, L> {
         let _ = &self.machine;
         self.journal.as_slice()
     }
+
+    /// Tells, in a proof, that a pass holds its job until the job's end is entered, whatever entries come between. It does nothing.
+    pub fn claims_last(&self)
+        ensures { (journal more : List Entry) (pass n : ℕ) (recipe : Recipe) → IsJournal (M.library self.now.library) self.now.cache (journal ++ more) → Holds (state_after (M.library self.now.library) self.now.cache journal) pass n recipe → EndsNone n more → Holds (state_after (M.library self.now.library) self.now.cache (journal ++ more)) pass n recipe }
+    {}
 
     /// How many more entries, beside those owed, take no memory.
     pub fn spare(&self) -> u64
