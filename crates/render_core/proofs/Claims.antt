@@ -1,7 +1,8 @@
 -- A held job stays held until its end is entered.
-use Rattle.std.proofs.Common.{◌≡◌, ◌≢◌, ℕ, zero, suc, ◌+◌, ◌-◌, ◌<◌, ◌≤◌, cond, not, Bool, true, false, ◌&&◌, ◌||◌, List, [], ◌∷◌, ◌++◌, length, get_or, take, map, Option, Some, None, Result, Ok, Err, refl, sym, ap, subst, ◌∙◌, arith}
+use Rattle.std.proofs.Common.{◌≡◌, ◌≢◌, ℕ, zero, suc, ◌+◌, ◌-◌, cond, not, Bool, true, false, ◌&&◌, ◌||◌, List, [], ◌∷◌, ◌++◌, length, take, map, Option, Some, None, Result, Ok, Err, refl, sym, ap, subst, ◌∙◌, arith}
 use Rattle.std.specs.Prelude.{slice_get}
 use Rattle.std.specs.List.{position}
+use Rattle.std.specs.Option.{option_map}
 use Rattle.std.proofs.lemmas.List.Quantifiers.{position-Some}
 use Rattle.std.proofs.lemmas.Option.{get_or_from_slice_get}
 use Rattle.tl_model.specs.Media.{Library}
@@ -13,7 +14,7 @@ use Rattle.tl_model.specs.declared.journal.Entry.{Entry}
 use Rattle.time_list.specs.Cells.{Cell, recipes, is_among}
 use Rattle.time_list.specs.Apply.{apply}
 use Rattle.render_core.specs.declared.job.Job.{Job}
-use Rattle.render_core.specs.State.{State, start, is_open, is_held, is_queued, held, let_go, ended, close_if, update, has_open, want_one, want_all, range, without, put_first, Holds}
+use Rattle.render_core.specs.State.{State, start, is_open, is_queued, held, let_go, ended, close_if, update, has_open, want_one, want_all, range, put_first, Holds}
 use Rattle.render_core.specs.Step.{IsLegal, step, after, state_after, AreLegal, IsJournal, is_past, edited, with_jobs, wanted, claimed, filed, played}
 use Rattle.render_core.specs.Claim.{EndsJob, EndsNone}
 
@@ -142,3 +143,23 @@ pub claim_lasts : {F : Type 0} (lib : Library F) (cache : ℕ) (journal more : L
 claim_lasts lib cache journal more pass n recipe legal h ends =
     subst (λ (s : State). Holds s pass n recipe) (sym (after_rest lib cache 0 journal more start))
     (holds_after lib cache (0 + length journal) more (state_after lib cache journal) pass n recipe h (legal_rest lib cache 0 journal more start legal) ends)
+
+at_update : (change : Job → Job) (jobs : List Job) (i : ℕ) (x : Job) → slice_get jobs i ≡ Some x → slice_get (update i change jobs) i ≡ Some (change x)
+at_update change [] i x e = absurd cc
+at_update change (j ∷ jobs) zero x e = let same : j ≡ x = cc in ap (λ (y : Job). Some (change y)) same
+at_update change (j ∷ jobs) (suc i) x e = at_update change jobs i x e
+
+-- a claim that was just made is held
+pub claim_holds : (pass place : ℕ) (recipe : Recipe) (s next : State) → next ≡ claimed pass (Some place) s → option_map (λ (job : Job). job.recipe) (slice_get s.jobs place) ≡ Some recipe → Holds next pass (place + 1) recipe
+claim_holds pass place recipe s next turn e = by_job (slice_get s.jobs place) refl e
+  where
+    by_job : (o : Option Job) → slice_get s.jobs place ≡ o → option_map (λ (job : Job). job.recipe) o ≡ Some recipe → Holds next pass (place + 1) recipe
+    by_job None at e = absurd cc
+    by_job (Some x) at e =
+        let i : (place + 1) - 1 ≡ place = omega arith in
+        let is : x.recipe ≡ recipe = cc in
+        record {
+          counted = omega arith;
+          closed = x.closed;
+          is_job = ap (λ (n : State). slice_get n.jobs ((place + 1) - 1)) turn ∙ ap (slice_get (update place (held pass) s.jobs)) i ∙ at_update (held pass) s.jobs place x at ∙ ap (λ (r : Recipe). Some (job_of r pass x.closed)) is;
+        }

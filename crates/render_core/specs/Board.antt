@@ -21,6 +21,7 @@ use Rattle.render_core.specs.declared.reply.ReleaseReply.{ReleaseReply}
 use Rattle.render_core.specs.declared.reply.ReleaseReply.TheVariants as release
 use Rattle.render_core.specs.declared.reply.PlayReply.{PlayReply}
 use Rattle.render_core.specs.declared.reply.PlayReply.TheVariants as play
+use Rattle.render_core.specs.Claim.{ClaimOf}
 use Rattle.render_core.specs.State.{State, owed, is_queued}
 use Rattle.render_core.specs.Parts.{MachineOf, in_state}
 use Rattle.render_core.specs.Step.{IsJournal, Reply, Edited, Wanted, Cancelled, PastEnd, Claimed, Filed, Released, Closed, Picture, Fault, Pending, IsLegal, reply, state_after}
@@ -133,3 +134,10 @@ abbrev pub RoomFor : (len owing limit need room : ℕ) → Result Unit Full → 
 RoomFor len owing limit need room (Ok done) = (len + owing + need ≤ limit) × (len + owing + need ≤ room)
 RoomFor len owing limit need room (Err (full.JournalFull told owes)) = (told ≡ len) × (owes ≡ owing) × (limit < len + owing + need)
 RoomFor len owing limit need room (Err full.NoMemory) = len + owing + need ≤ limit
+
+-- A fact for the claim that is answered.
+abbrev pub IfClaimed : Result ClaimReply Full → (ClaimOf → Type 0) → Type 0
+IfClaimed (Ok (claims.Claimed claim)) fact = fact claim
+IfClaimed (Ok (claims.Stopped len)) fact = Unit {0}
+IfClaimed (Ok (claims.Idle len)) fact = Unit {0}
+IfClaimed (Err why) fact = Unit {0}

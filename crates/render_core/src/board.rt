@@ -11,7 +11,7 @@ ghost use Rattle.render_core.specs.State.{owed, Holds};
 ghost use Rattle.render_core.specs.Claim.{EndsNone};
 ghost use Rattle.render_core.specs.Step.{IsJournal, state_after};
 ghost use Rattle.tl_model.specs.declared.recipe.Recipe.{Recipe};
-ghost use Rattle.render_core.specs.Board.{BoardOf, state_of, IsSame, HasRoom, MakesRoom, RoomFor, Does, Adds, Pays, Claims, of_edit, of_want, of_cancel, of_file, of_release, of_play};
+ghost use Rattle.render_core.specs.Board.{BoardOf, state_of, IsSame, HasRoom, MakesRoom, RoomFor, Does, Adds, Pays, Claims, IfClaimed, of_edit, of_want, of_cancel, of_file, of_release, of_play};
 
 use crate::claim::{Claim, Stopper};
 use crate::machine::Machine;
@@ -199,7 +199,8 @@ impl<M: Media, L: Lane> Board<M, L> {
 
     /// Takes the lowest queued job. Room and memory for its end are kept, so that it can always be given back.
     pub fn claim(&mut self, by: u32) -> Result<ClaimReply, Full>
-        ensures { Claims M.library self.old self.new by result }
+        ensures done { Claims M.library self.old self.new by result }
+        ensures held { IfClaimed result (λ claim. Holds (state_of M.library self.new) by claim.job claim.recipe) }
     {
         let len = self.journal.len() as u64;
         if self.machine.is_stopped() {
