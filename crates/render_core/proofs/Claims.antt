@@ -1,10 +1,10 @@
 -- A held job stays held until its end is entered.
-use Rattle.std.proofs.Common.{◌≡◌, ◌≢◌, ℕ, zero, suc, ◌+◌, ◌-◌, cond, not, Bool, true, false, ◌&&◌, ◌||◌, List, [], ◌∷◌, ◌++◌, length, take, map, Option, Some, None, Result, Ok, Err, refl, sym, ap, subst, ◌∙◌, arith}
-use Rattle.std.specs.Prelude.{slice_get}
+use Rattle.std.proofs.Common.{◌≡◌, ◌≢◌, ◌≤◌, ℕ, zero, suc, ◌+◌, ◌-◌, cond, not, Bool, true, false, ◌&&◌, ◌||◌, List, [], ◌∷◌, ◌++◌, length, take, map, Option, Some, None, Result, Ok, Err, refl, sym, ap, subst, ◌∙◌, arith}
+use Rattle.std.specs.Prelude.{slice_get, ◌==◌}
 use Rattle.std.specs.List.{position}
 use Rattle.std.specs.Option.{option_map}
 use Rattle.std.proofs.lemmas.List.Quantifiers.{position-Some}
-use Rattle.std.proofs.lemmas.Option.{get_or_from_slice_get}
+use Rattle.std.proofs.lemmas.Option.{get_or_from_slice_get, same_Some}
 use Rattle.tl_model.specs.Media.{Library}
 use Rattle.tl_model.specs.declared.recipe.Recipe.{Recipe}
 use Rattle.tl_model.specs.declared.edit.EditRefusal.{EditRefusal}
@@ -16,7 +16,12 @@ use Rattle.time_list.specs.Apply.{apply}
 use Rattle.render_core.specs.declared.job.Job.{Job}
 use Rattle.render_core.specs.State.{State, start, is_open, is_queued, held, let_go, ended, close_if, update, has_open, want_one, want_all, range, put_first, Holds}
 use Rattle.render_core.specs.Step.{IsLegal, step, after, state_after, AreLegal, IsJournal, is_past, edited, with_jobs, wanted, claimed, filed, played}
-use Rattle.render_core.specs.Claim.{EndsJob, EndsNone}
+use Rattle.render_core.specs.Claim.{ClaimOf, EndsJob, EndsNone}
+use Rattle.render_core.specs.Parts.{MachineOf, is_by, is_held_by}
+use Rattle.render_core.proofs.Ranges.{both_true, same_recipe-true}
+use Rattle.render_core.proofs.Jobs.{both, eqb-self, same_recipe-same}
+use Rattle.std.proofs.lemmas.Bool.Decides.{nat_tests}
+use Rattle.tl_model.specs.Recipe.{same_recipe}
 
 abbrev job_of : Recipe → ℕ → Option ℕ → Job
 job_of recipe pass closed = record { recipe = recipe; holder = Some pass; closed = closed }
@@ -100,7 +105,17 @@ holds_played (Some r) s pass n recipe h =
     let moved : State = record { line = s.line; jobs = s.jobs; filed = put_first r s.filed; is_stopped = s.is_stopped } in
     either (is_among r s.filed) moved s pass n recipe (holds_same s moved pass n recipe refl h) h
 
-pub holds_step : {F : Type 0} (lib : Library F) (cache at by : ℕ) (what : Act) (s : State) (pass n : ℕ) (recipe : Recipe) → Holds s pass n recipe → IsLegal by what s → (EndsJob n what → ⊥) → Holds (step lib cache at by what s) pass n recipe
+-- a job is held by one pass
+holder_in : Option Job → Option ℕ
+holder_in None = None
+holder_in (Some job) = job.holder
+
+same_holder : (s : State) (pass by n m : ℕ) (recipe other : Recipe) → Holds s pass n recipe → Holds s by m other → (n - 1) ≡ (m - 1) → by ≡ pass
+unfolding holder_in
+same_holder s pass by n m recipe other h k e =
+    same_Some by pass (sym (ap holder_in k.is_job) ∙ ap (λ (i : ℕ). holder_in (slice_get s.jobs i)) (sym e) ∙ ap holder_in h.is_job)
+
+pub holds_step : {F : Type 0} (lib : Library F) (cache at by : ℕ) (what : Act) (s : State) (pass n : ℕ) (recipe : Recipe) → Holds s pass n recipe → IsLegal by what s → (by ≡ pass → EndsJob n what → ⊥) → Holds (step lib cache at by what s) pass n recipe
 holds_step lib cache at by (act.Edit edit) s pass n recipe h legal ends = holds_edited at (apply lib edit s.line) s pass n recipe h
 holds_step lib cache at by (act.Want first len) s pass n recipe h legal ends =
     let next = with_jobs (wanted first len s) s in
@@ -111,15 +126,15 @@ holds_step lib cache at by (act.Cancel first len) s pass n recipe h legal ends =
     either (is_past first len s) s next pass n recipe h (holds_closed s next test at pass n recipe refl h)
 holds_step lib cache at by act.Claim s pass n recipe h legal ends = holds_claimed by (position is_queued s.jobs) s pass n recipe refl h
 holds_step lib cache at by (act.File job) s pass n recipe h legal ends =
-    let apart : (n - 1) ≢ (job - 1) = λ e. ends (let same : job ≡ n = omega (arith, e, h.counted, legal.1.counted) in same) in
+    let apart : (n - 1) ≢ (job - 1) = λ e. ends (same_holder s pass by n job recipe legal.0 h legal.1 e) (let same : job ≡ n = omega (arith, e, h.counted, legal.1.counted) in same) in
     holds_filed cache at (job - 1) (slice_get s.jobs (job - 1)) s pass n recipe apart h
 holds_step lib cache at by (act.Release job) s pass n recipe h legal ends =
-    let apart : (n - 1) ≢ (job - 1) = λ e. ends (let same : job ≡ n = omega (arith, e, h.counted, legal.1.counted) in same) in
+    let apart : (n - 1) ≢ (job - 1) = λ e. ends (same_holder s pass by n job recipe legal.0 h legal.1 e) (let same : job ≡ n = omega (arith, e, h.counted, legal.1.counted) in same) in
     holds_same s (with_jobs (update (job - 1) let_go s.jobs) s) pass n recipe (update_other let_go s.jobs (n - 1) (job - 1) apart) h
 holds_step lib cache at by (act.Play m) s pass n recipe h legal ends = holds_played (slice_get (recipes s.line) m) s pass n recipe h
 holds_step lib cache at by act.Stop s pass n recipe h legal ends = holds_same s (step lib cache at by act.Stop s) pass n recipe refl h
 
-holds_after : {F : Type 0} (lib : Library F) (cache count : ℕ) (more : List Entry) (s : State) (pass n : ℕ) (recipe : Recipe) → Holds s pass n recipe → AreLegal lib cache count more s → EndsNone n more → Holds (after lib cache count more s) pass n recipe
+holds_after : {F : Type 0} (lib : Library F) (cache count : ℕ) (more : List Entry) (s : State) (pass n : ℕ) (recipe : Recipe) → Holds s pass n recipe → AreLegal lib cache count more s → EndsNone pass n more → Holds (after lib cache count more s) pass n recipe
 holds_after lib cache count [] s pass n recipe h legal ends = h
 holds_after lib cache count (e ∷ es) s pass n recipe h legal ends =
     holds_after lib cache (count + 1) es (step lib cache (count + 1) e.pass e.act s) pass n recipe (holds_step lib cache (count + 1) e.pass e.act s pass n recipe h legal.0 ends.0) legal.1 ends.1
@@ -139,7 +154,7 @@ after_rest lib cache count (e ∷ es) more s =
     let next = step lib cache (count + 1) e.pass e.act s in
     after_rest lib cache (count + 1) es more next ∙ ap (λ (k : ℕ). after lib cache k more (after lib cache (count + 1) es next)) n
 
-pub claim_lasts : {F : Type 0} (lib : Library F) (cache : ℕ) (journal more : List Entry) (pass n : ℕ) (recipe : Recipe) → IsJournal lib cache (journal ++ more) → Holds (state_after lib cache journal) pass n recipe → EndsNone n more → Holds (state_after lib cache (journal ++ more)) pass n recipe
+pub claim_lasts : {F : Type 0} (lib : Library F) (cache : ℕ) (journal more : List Entry) (pass n : ℕ) (recipe : Recipe) → IsJournal lib cache (journal ++ more) → Holds (state_after lib cache journal) pass n recipe → EndsNone pass n more → Holds (state_after lib cache (journal ++ more)) pass n recipe
 claim_lasts lib cache journal more pass n recipe legal h ends =
     subst (λ (s : State). Holds s pass n recipe) (sym (after_rest lib cache 0 journal more start))
     (holds_after lib cache (0 + length journal) more (state_after lib cache journal) pass n recipe h (legal_rest lib cache 0 journal more start legal) ends)
@@ -163,3 +178,34 @@ claim_holds pass place recipe s next turn e = by_job (slice_get s.jobs place) re
           closed = x.closed;
           is_job = ap (λ (n : State). slice_get n.jobs ((place + 1) - 1)) turn ∙ ap (slice_get (update place (held pass) s.jobs)) i ∙ at_update (held pass) s.jobs place x at ∙ ap (λ (r : Recipe). Some (job_of r pass x.closed)) is;
         }
+
+-- the test of a claim
+held_by : (pass : ℕ) (recipe : Recipe) (o : Option Job) → is_held_by pass recipe o ≡ true → (closed : Option ℕ) × (o ≡ Some (job_of recipe pass closed))
+held_by pass recipe None e = absurd cc
+held_by pass recipe (Some x) e = by_holder x.holder refl e
+  where
+    by_holder : (h : Option ℕ) → x.holder ≡ h → (is_by pass h && same_recipe recipe x.recipe) ≡ true → (closed : Option ℕ) × (Some x ≡ Some (job_of recipe pass closed))
+    by_holder None h t = absurd cc
+    by_holder (Some holder) h t =
+        let p = both_true (holder == pass) (same_recipe recipe x.recipe) t in
+        let w : holder ≡ pass = grind (arith, nat_tests, p.0) in
+        let r = same_recipe-true recipe x.recipe p.1 in
+        (x.closed, ap (λ (q : Recipe). Some (record { recipe = q; holder = x.holder; closed = x.closed })) (sym r) ∙ ap (λ (k : Option ℕ). Some (record { recipe = recipe; holder = k; closed = x.closed })) (h ∙ ap Some w))
+
+pub holds_if : (s : State) (pass n : ℕ) (recipe : Recipe) → 1 ≤ n → is_held_by pass recipe (slice_get s.jobs (n - 1)) ≡ true → Holds s pass n recipe
+holds_if s pass n recipe some e =
+    let found = held_by pass recipe (slice_get s.jobs (n - 1)) e in
+    record { counted = some; closed = found.0; is_job = found.1 }
+
+pub holds_only_if : (s : State) (pass n : ℕ) (recipe : Recipe) → Holds s pass n recipe → is_held_by pass recipe (slice_get s.jobs (n - 1)) ≡ true
+holds_only_if s pass n recipe h = ap (is_held_by pass recipe) h.is_job ∙ both (eqb-self pass) (same_recipe-same recipe)
+
+pub claim_held : {M : Type 0} (m now : MachineOf M) (inside claim : ClaimOf) (pass : ℕ) (b : Bool) → m ≡ now → inside ≡ claim → 1 ≤ inside.job → b ≡ is_held_by pass inside.recipe (slice_get m.state.jobs (inside.job - 1)) → b ≡ true → Holds now.state pass claim.job claim.recipe
+claim_held {M} m now inside claim pass b v w some is t =
+    subst (λ (x : MachineOf M). Holds x.state pass claim.job claim.recipe) v
+    (subst (λ (k : ClaimOf). Holds m.state pass k.job k.recipe) w (holds_if m.state pass inside.job inside.recipe some (sym is ∙ t)))
+
+pub held_claim : {M : Type 0} (m now : MachineOf M) (inside claim : ClaimOf) (pass : ℕ) (b : Bool) → m ≡ now → inside ≡ claim → b ≡ is_held_by pass inside.recipe (slice_get m.state.jobs (inside.job - 1)) → Holds now.state pass claim.job claim.recipe → b ≡ true
+held_claim {M} m now inside claim pass b v w is h =
+    is ∙ holds_only_if m.state pass inside.job inside.recipe
+    (subst (λ (k : ClaimOf). Holds m.state pass k.job k.recipe) (sym w) (subst (λ (x : MachineOf M). Holds x.state pass claim.job claim.recipe) (sym v) h))

@@ -14,15 +14,13 @@ use Rattle.tl_model.specs.declared.journal.Act.TheVariants as act
 use Rattle.tl_model.specs.declared.journal.Entry.{Entry}
 use Rattle.time_list.specs.Cells.{Cell, is_among, recipes}
 use Rattle.render_core.specs.declared.job.Job.{Job}
-use Rattle.render_core.specs.declared.reply.Full.{Full}
-use Rattle.render_core.specs.declared.reply.Full.TheVariants as full
 use Rattle.render_core.specs.State.{State, is_open, is_held, is_queued, held, let_go, ended, close_if, update, has_open, want_one, want_all, range, put_first, owed, Holds}
 use Rattle.render_core.specs.Step.{Reply, IsLegal, step, reply, after, state_after, AreLegal, IsJournal, edited, with_jobs, wanted, claimed, filed, played}
 use Rattle.render_core.specs.Parts.{MachineOf, in_state}
-use Rattle.render_core.specs.Board.{BoardOf, state_of, IsSame, HasRoom, Adds, Refuses, Pays, IsBoard, MakesRoom}
+use Rattle.render_core.specs.Board.{BoardOf, state_of, IsSame, HasRoom, Adds, Pays, IsBoard}
 use Rattle.render_core.proofs.Jobs.{weight, count_map_same, count_update, count_push}
 
-after-append : {F : Type 0} (lib : Library F) (cache count : ℕ) (es : List Entry) (e : Entry) (s : State) → after lib cache count (es ++ e ∷ []) s ≡ step lib cache (count + length es + 1) e.pass e.act (after lib cache count es s)
+pub after-append : {F : Type 0} (lib : Library F) (cache count : ℕ) (es : List Entry) (e : Entry) (s : State) → after lib cache count (es ++ e ∷ []) s ≡ step lib cache (count + length es + 1) e.pass e.act (after lib cache count es s)
 after-append lib cache count [] e s = let n : count + 1 ≡ count + 0 + 1 = omega arith in ap (λ (k : ℕ). step lib cache k e.pass e.act s) n
 after-append lib cache count (x ∷ es) e s =
     let n : count + 1 + length es + 1 ≡ count + suc (length es) + 1 = omega arith in
@@ -115,23 +113,6 @@ replies {M} library old mid m limit journal spare what told v same stands e =
     e ∙ ap (reply (library m.library) what) (state_from library old mid m limit journal spare v same stands)
     ∙ ap (λ (x : M). reply (library x) what (state_of library old)) (ap (λ (b : BoardOf M). b.library) v ∙ same.library)
 
--- a refusal by the room
-pub refused : {M F : Type 0} (library : M → Library F) (old new : BoardOf M) (need : ℕ) (why : Full) → MakesRoom library old new need (Err why) → Refuses library old new need why
-refused library old new need (full.JournalFull len owing) h = h.1
-refused library old new need full.NoMemory h = h.0
-
--- want of memory after room was made
-pub unmoved : {M F : Type 0} (library : M → Library F) (old mid : BoardOf M) (m next : MachineOf M) (limit : ℕ) (journal : List Entry) (spare spare' need : ℕ) → view_of m limit journal spare ≡ mid → IsSame old mid → HasRoom library old need → next ≡ m → Refuses library old (view_of next limit journal spare') need full.NoMemory
-unmoved {M} library old mid m next limit journal spare spare' need v same room turn = (
-  record {
-    library = ap (λ (x : MachineOf M). x.library) turn ∙ ap (λ (b : BoardOf M). b.library) v ∙ same.library;
-    cache = ap (λ (x : MachineOf M). x.cache) turn ∙ ap (λ (b : BoardOf M). b.cache) v ∙ same.cache;
-    limit = ap (λ (b : BoardOf M). b.limit) v ∙ same.limit;
-    journal = ap (λ (b : BoardOf M). b.journal) v ∙ same.journal;
-  },
-  room,
-)
-
 pub grown : {M F : Type 0} (library : M → Library F) (om nm : MachineOf M) (at pass : ℕ) (what : Act) (journal longer : List Entry) (limit owing room owing' room' : ℕ) → IsBoard (library om.library) om.cache om.state journal limit owing room → IsLegal pass what om.state → at ≡ length journal + 1 → nm ≡ in_state (step (library om.library) om.cache at pass what om.state) om → longer ≡ journal ++ record { pass = pass; act = what } ∷ [] → owing' ≡ owed (step (library om.library) om.cache at pass what om.state) → length journal + 1 + owing' ≤ limit → length journal + 1 + owing' ≤ room' → IsBoard (library nm.library) nm.cache nm.state longer limit owing' room'
 grown {M} library om nm at pass what journal longer limit owing room owing' room' b legal here turn is owes within kept =
     let next = step (library om.library) om.cache at pass what om.state in
@@ -180,7 +161,7 @@ Holds-inside library old m limit journal spare pass n recipe v stands h = subst 
 
 pub pays : {M F R : Type 0} (library : M → Library F) (old : BoardOf M) (om nm : MachineOf M) (at pass : ℕ) (what : Act) (journal longer : List Entry) (limit owing len len' cap cap' : ℕ) (view : R → Reply F) (given : R) → view_of om limit journal (cap - (len + owing)) ≡ old → om.state ≡ state_after (library om.library) om.cache journal → IsLegal pass what om.state → nm ≡ in_state (step (library om.library) om.cache at pass what om.state) om → longer ≡ journal ++ record { pass = pass; act = what } ∷ [] → view given ≡ reply (library om.library) what om.state → 1 ≤ owing → len' ≡ len + 1 → cap' ≡ cap → Pays library old (view_of nm limit longer (cap' - (len' + (owing - 1)))) pass what view given
 pays {M} library old om nm at pass what journal longer limit owing len len' cap cap' view given v stands legal turn is told some is_len is_cap =
-    let same : IsSame old old = record { library = refl; cache = refl; limit = refl; journal = refl } in
+    let same : IsSame old old = record { library = refl; cache = refl; limit = refl; journal = refl; room = omega arith } in
     let left : cap' - (len' + (owing - 1)) ≡ cap - (len + owing) = omega arith in
     record {
       added = adds library old old om nm limit journal longer (cap - (len + owing)) (cap' - (len' + (owing - 1))) pass what (step (library om.library) om.cache at pass what om.state) v same stands legal turn is;

@@ -134,17 +134,17 @@ one_open-want filed [] jobs one = one
 one_open-want filed (r ∷ rs) jobs one = one_open-want filed rs (want_one filed r jobs) (one_open-want_by filed r jobs (is_among r filed) (has_open r jobs) refl one)
 
 -- jobs with a recipe of a range number at most its length
-both : {a b : Bool} → a ≡ true → b ≡ true → (a && b) ≡ true
+pub both : {a b : Bool} → a ≡ true → b ≡ true → (a && b) ≡ true
 both {a} {b} e f = ap (λ (x : Bool). x && b) e ∙ f
 
-eqb-self : (n : ℕ) → eqb n n ≡ true
+pub eqb-self : (n : ℕ) → eqb n n ≡ true
 eqb-self n = grind (arith, nat_tests)
 
 same_side-same : (s : Side) → same_side s s ≡ true
 same_side-same side.Black = refl
 same_side-same (side.Clip c f) = both (eqb-self c) (eqb-self f)
 
-same_recipe-same : (r : Recipe) → same_recipe r r ≡ true
+pub same_recipe-same : (r : Recipe) → same_recipe r r ≡ true
 same_recipe-same recipe.Black = refl
 same_recipe-same (recipe.Source c f) = both (eqb-self c) (eqb-self f)
 same_recipe-same (recipe.Mix a b w) = both (same_side-same a) (both (same_side-same b) (eqb-self w))

@@ -3,3 +3,4 @@ pub mod Jobs
 pub mod Turns
 pub mod Grows
 pub mod Claims
+pub mod Calls

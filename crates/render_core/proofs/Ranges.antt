@@ -14,7 +14,7 @@ use Rattle.time_list.specs.Cells.{is_among}
 use Rattle.render_core.specs.State.{without}
 use Rattle.render_core.specs.Parts.{Places, recipes_of}
 
-both_true : (a b : Bool) → (a && b) ≡ true → (a ≡ true) × (b ≡ true)
+pub both_true : (a b : Bool) → (a && b) ≡ true → (a ≡ true) × (b ≡ true)
 both_true true b e = (refl, e)
 both_true false b e = absurd cc
 

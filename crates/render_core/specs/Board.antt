@@ -59,12 +59,13 @@ of_play (play.Fault fault) = Fault fault
 of_play (play.Pending recipe) = Pending recipe
 of_play (play.PastEnd len) = PastEnd len
 
--- The same but for the room that is left.
+-- The same but for the room that is left, which is no less.
 pub record IsSame {M : Type 0} (old new : BoardOf M) : Type 0 where
   pub library : new.library ≡ old.library
   pub cache : new.cache ≡ old.cache
   pub limit : new.limit ≡ old.limit
   pub journal : new.journal ≡ old.journal
+  pub room : old.spare ≤ new.spare
 
 module _ {M F : Type 0} where
   -- The state that the board stands for.

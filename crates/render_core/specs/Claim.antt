@@ -21,6 +21,7 @@ EndsJob n act.Claim = ⊥
 EndsJob n (act.Play frame) = ⊥
 EndsJob n act.Stop = ⊥
 
-abbrev pub EndsNone : ℕ → List Entry → Type 0
-EndsNone n [] = Unit {0}
-EndsNone n (e ∷ es) = (EndsJob n e.act → ⊥) × EndsNone n es
+-- None of the entries is the end of this job by this pass.
+abbrev pub EndsNone : (pass n : ℕ) → List Entry → Type 0
+EndsNone pass n [] = Unit {0}
+EndsNone pass n (e ∷ es) = (e.pass ≡ pass → EndsJob n e.act → ⊥) × EndsNone pass n es

@@ -3,3 +3,4 @@ pub mod State
 pub mod Step
 pub mod Board
 pub mod Parts
+pub mod Calls

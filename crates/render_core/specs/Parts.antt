@@ -1,5 +1,5 @@
 -- What the parts of the machine's code keep and answer.
-use Rattle.std.specs.Prelude.{◌≡◌, ℕ, ◌<◌, ◌≤◌, ◌&&◌, true, false, List, [], ◌∷◌, map, length, slice_get, Option, Some, None}
+use Rattle.std.specs.Prelude.{◌≡◌, ℕ, ◌<◌, ◌≤◌, ◌&&◌, ◌==◌, Bool, true, false, List, [], ◌∷◌, map, length, slice_get, Option, Some, None}
 use Rattle.std.specs.List.{count_by, remove}
 use Rattle.tl_model.specs.Media.{Library, RenderedOf}
 use Rattle.tl_model.specs.Recipe.{same_recipe}
@@ -21,6 +21,15 @@ recipes_of results = map (λ r. r.recipe) results
 abbrev pub AreOf : {M : Type 0} → M → List (RenderedOf M) → Type 0
 AreOf library [] = Unit {0}
 AreOf library (r ∷ rs) = (r.library ≡ library) × AreOf library rs
+
+-- The job that was found has this recipe and is held by the pass.
+abbrev pub is_by : ℕ → Option ℕ → Bool
+is_by pass None = false
+is_by pass (Some holder) = holder == pass
+
+abbrev pub is_held_by : ℕ → Recipe → Option Job → Bool
+is_held_by pass recipe None = false
+is_held_by pass recipe (Some job) = is_by pass job.holder && same_recipe recipe job.recipe
 
 -- No recipe has two open jobs.
 abbrev pub HasOneOpen : List Job → Type 0

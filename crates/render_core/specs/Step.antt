@@ -101,6 +101,11 @@ abbrev pub played : Option Recipe → State → State
 played None s = s
 played (Some recipe) s = if is_among recipe s.filed then record { line = s.line; jobs = s.jobs; filed = put_first recipe s.filed; is_stopped = s.is_stopped } else s
 
+-- The recipe's result is filed.
+abbrev pub is_filed : Option Recipe → State → Bool
+is_filed None s = false
+is_filed (Some recipe) s = is_among recipe s.filed
+
 abbrev pub picture_of : {F : Type 0} → Result F RenderFault → Reply F
 picture_of (Ok frame) = Picture frame
 picture_of (Err fault) = Fault fault

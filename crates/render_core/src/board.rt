@@ -1,6 +1,6 @@
 //! The board: the machine with its journal.
 
-ghost use Rattle.std.specs.Prelude.{◌≡◌, ◌≢◌, ℕ, ◌+◌, ◌-◌, ◌^◌, ◌<◌, ◌≤◌, List, [], ◌++◌, length, Some, IfOk, OnOk, OnErr, MatchResult, vec_capacity, false, Err};
+ghost use Rattle.std.specs.Prelude.{◌≡◌, ◌≢◌, ℕ, ◌+◌, ◌-◌, ◌^◌, ◌<◌, ◌≤◌, List, [], ◌++◌, length, Some, Option, IfOk, OnOk, OnErr, MatchResult, vec_capacity, slice_get, false, Err, IsTrue, ◌↔◌};
 ghost use Rattle.std.specs.List.{position};
 ghost use Rattle.tl_model.specs.Edit.{IsEdit};
 ghost use Rattle.tl_model.specs.Media.{RenderedOf};
@@ -9,8 +9,10 @@ ghost use Rattle.tl_model.specs.declared.journal.Entry.{Entry};
 ghost use Rattle.render_core.specs.declared.reply.Full.TheVariants as full;
 ghost use Rattle.render_core.specs.State.{owed, Holds};
 ghost use Rattle.render_core.specs.Claim.{EndsNone};
-ghost use Rattle.render_core.specs.Step.{IsJournal, state_after};
+ghost use Rattle.render_core.specs.Calls.{CallOf, entered, Runs, Journals};
+ghost use Rattle.render_core.specs.Step.{IsJournal, state_after, is_filed};
 ghost use Rattle.tl_model.specs.declared.recipe.Recipe.{Recipe};
+ghost use Rattle.time_list.specs.Cells.{recipes};
 ghost use Rattle.render_core.specs.Board.{BoardOf, state_of, IsSame, HasRoom, MakesRoom, RoomFor, Does, Adds, Pays, Claims, IfClaimed, of_edit, of_want, of_cancel, of_file, of_release, of_play};
 
 use crate::claim::{Claim, Stopper};
@@ -78,10 +80,34 @@ impl<M: Media, L: Lane> Board<M, L> {
         self.journal.as_slice()
     }
 
-    /// Tells, in a proof, that a pass holds its job until the job's end is entered, whatever entries come between. It does nothing.
+    /// Tells, in a proof, that a pass holds its job until it enters the job's end itself, whatever entries of others
+    /// come between. It does nothing.
     pub fn claims_last(&self)
-        ensures { (journal more : List Entry) (pass n : ℕ) (recipe : Recipe) → IsJournal (M.library self.now.library) self.now.cache (journal ++ more) → Holds (state_after (M.library self.now.library) self.now.cache journal) pass n recipe → EndsNone n more → Holds (state_after (M.library self.now.library) self.now.cache (journal ++ more)) pass n recipe }
+        ensures { (journal more : List Entry) (pass n : ℕ) (recipe : Recipe) → IsJournal (M.library self.now.library) self.now.cache (journal ++ more) → Holds (state_after (M.library self.now.library) self.now.cache journal) pass n recipe → EndsNone pass n more → Holds (state_after (M.library self.now.library) self.now.cache (journal ++ more)) pass n recipe }
     {}
+
+    /// Tells, in a proof, that a list of calls enters its entries in order, where each may come, and that each was told
+    /// the machine's reply to its entry. It does nothing.
+    pub fn calls_are_entered(&self)
+        ensures { (old new : BoardOf M) (calls : List (Option (CallOf M.Frame))) → Runs M.library old new calls → Journals (M.library old.library) old.cache old.journal new.journal (entered calls) }
+    {}
+
+    /// Whether a caller holds the job of a claim.
+    pub fn holds(&self, by: u32, claim: &Claim) -> bool
+        ensures held { IsTrue result → Holds (state_of M.library self.now) by claim.now.job claim.now.recipe }
+        ensures free { Holds (state_of M.library self.now) by claim.now.job claim.now.recipe → IsTrue result }
+    {
+        let _ = &self.journal;
+        self.machine.holds(by, claim)
+    }
+
+    /// Whether the session was stopped.
+    pub fn is_stopped(&self) -> bool
+        ensures { result ≡ (state_of M.library self.now).is_stopped }
+    {
+        let _ = &self.journal;
+        self.machine.is_stopped()
+    }
 
     /// How many more entries, beside those owed, take no memory.
     pub fn spare(&self) -> u64
@@ -264,10 +290,12 @@ impl<M: Media, L: Lane> Board<M, L> {
         reply
     }
 
-    /// Plays frame `n`: its picture, exactly where its recipe is filed.
+    /// Plays frame `n`: its picture, exactly where its recipe is filed. While `spare` is at least 1, only a frame whose
+    /// recipe is filed can want memory, since its picture is shared then.
     pub fn play(&mut self, by: u32, n: u32) -> Result<PlayReply<M::Frame>, Full>
         ensures done { Does M.library self.old self.new by (act.Play n) of_play result }
         ensures uses { 1 ≤ self.old.spare → OnOk result (self.new.spare + 1 ≡ self.old.spare) }
+        ensures filed { 1 ≤ self.old.spare → result ≡ Err full.NoMemory → IsTrue (is_filed (slice_get (recipes (state_of M.library self.old).line) n) (state_of M.library self.old)) }
     {
         match self.make_room(1) {
             Ok(()) => {}

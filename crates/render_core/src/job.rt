@@ -4,7 +4,7 @@ ghost use Rattle.std.specs.Prelude.{◌≡◌, ◌+◌, ◌^◌, ◌<◌, ◌≤
 ghost use Rattle.std.specs.List.{count_by};
 ghost use Rattle.time_list.specs.Cells.{recipes, is_among};
 ghost use Rattle.render_core.specs.State.{is_open, is_queued, held, let_go, ended, update, has_open, close_if, range, want_one, want_all};
-ghost use Rattle.render_core.specs.Parts.{recipes_of};
+ghost use Rattle.render_core.specs.Parts.{recipes_of, is_held_by};
 
 use crate::filed::place_of;
 use crate::frames::has_recipe;
@@ -31,6 +31,19 @@ impl Job {
         ensures { result ≡ is_queued self.now }
     {
         self.is_open() && self.holder.is_none()
+    }
+}
+
+/// Whether the job at a place has this recipe and is held by the pass.
+pub(crate) fn is_held_by(jobs: &[Job], place: usize, by: u32, recipe: Recipe) -> bool
+    ensures { result ≡ is_held_by by recipe (slice_get jobs.now place) }
+{
+    match jobs.get(place) {
+        None => false,
+        Some(job) => match job.holder {
+            None => false,
+            Some(holder) => holder == by && recipe.is(job.recipe),
+        },
     }
 }
 

@@ -1,13 +1,14 @@
 //! The machine: the timeline, the jobs and the filed results, without the journal.
 
-ghost use Rattle.std.specs.Prelude.{◌≡◌, ℕ, ◌+◌, ◌-◌, ◌<◌, ◌≤◌, length, slice_get, Some, MatchResult};
+ghost use Rattle.std.specs.Prelude.{◌≡◌, ℕ, ◌+◌, ◌-◌, ◌<◌, ◌≤◌, length, slice_get, Some, MatchResult, OnErr, IsTrue, ◌↔◌};
 ghost use Rattle.std.specs.Option.{option_map};
 ghost use Rattle.std.specs.List.{position};
 ghost use Rattle.tl_model.specs.Edit.{IsEdit};
 ghost use Rattle.tl_model.specs.Media.{RenderedOf};
 ghost use Rattle.tl_model.specs.declared.journal.Act.TheVariants as act;
+ghost use Rattle.time_list.specs.Cells.{recipes};
 ghost use Rattle.render_core.specs.State.{start, is_queued, Holds};
-ghost use Rattle.render_core.specs.Step.{step, reply, claimed};
+ghost use Rattle.render_core.specs.Step.{step, reply, claimed, is_filed};
 ghost use Rattle.render_core.specs.Board.{Turns, of_edit, of_want, of_cancel, of_file, of_release, of_play};
 ghost use Rattle.render_core.specs.Parts.{MachineOf, in_state};
 
@@ -60,6 +61,14 @@ impl<M: Media, L: Lane> Machine<M, L> {
         ensures { result ≡ self.now.state.is_stopped }
     {
         self.is_stopped
+    }
+
+    /// Whether a pass holds the job of a claim.
+    pub(crate) fn holds(&self, by: u32, claim: &Claim) -> bool
+        ensures held { IsTrue result → Holds self.now.state by claim.now.job claim.now.recipe }
+        ensures free { Holds self.now.state by claim.now.job claim.now.recipe → IsTrue result }
+    {
+        claim.job > 0 && job::is_held_by(&self.jobs, (claim.job - 1) as usize, by, claim.recipe)
     }
 
     /// The place of the lowest queued job.
@@ -180,7 +189,8 @@ impl<M: Media, L: Lane> Machine<M, L> {
     }
 
     pub(crate) fn play(&mut self, n: u32) -> Result<PlayReply<M::Frame>, Full>
-        ensures { Turns self.old self.new (step (M.library self.old.library) self.old.cache 0 0 (act.Play n) self.old.state) (reply (M.library self.old.library) (act.Play n) self.old.state) of_play result }
+        ensures turn { Turns self.old self.new (step (M.library self.old.library) self.old.cache 0 0 (act.Play n) self.old.state) (reply (M.library self.old.library) (act.Play n) self.old.state) of_play result }
+        ensures filed { OnErr result (IsTrue (is_filed (slice_get (recipes self.old.state.line) n) self.old.state)) }
     {
         let frames = self.lane.frames();
         if n >= frames {

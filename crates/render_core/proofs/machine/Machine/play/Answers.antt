@@ -20,8 +20,8 @@ invariant_of-self g c =
       one_open = c.self.invariant.one_open;
     }
 
-pub returns : goal.returns
-returns g c =
+pub returns-clause-turn : goal.returns-clause-turn
+returns-clause-turn g c =
     let place = c.in-Some.place in
     let filed = c.self.inside.filed.items in
     let p = subst (λ (rs : List (RenderedOf _)). Places c.recipe_in-recipe.result (recipes_of rs) (Some place)) c.deref.ensures.value c.in-Some.ensures in
