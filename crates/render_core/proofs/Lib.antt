@@ -4,3 +4,4 @@ pub mod Turns
 pub mod Grows
 pub mod Claims
 pub mod Calls
+pub mod Renders

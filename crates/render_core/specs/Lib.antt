@@ -4,3 +4,4 @@ pub mod Step
 pub mod Board
 pub mod Parts
 pub mod Calls
+pub mod Numbers

@@ -1,7 +1,7 @@
 -- What the parts of the machine's code keep and answer.
 use Rattle.std.specs.Prelude.{◌≡◌, ℕ, ◌<◌, ◌≤◌, ◌&&◌, ◌==◌, Bool, true, false, List, [], ◌∷◌, map, length, slice_get, Option, Some, None}
 use Rattle.std.specs.List.{count_by, remove}
-use Rattle.tl_model.specs.Media.{Library, RenderedOf}
+use Rattle.tl_model.specs.Media.{Library, CanRender, RenderedOf}
 use Rattle.tl_model.specs.Recipe.{same_recipe}
 use Rattle.tl_model.specs.declared.recipe.Recipe.{Recipe}
 use Rattle.time_list.specs.Cells.{Cell, is_among}
@@ -41,11 +41,17 @@ pub record MachineOf (M : Type 0) : Type 0 where
   pub cache : ℕ
   pub state : State
 
+-- Every job's recipe can be rendered.
+abbrev pub AreShown : {F : Type 0} → Library F → List Job → Type 0
+AreShown lib [] = Unit {0}
+AreShown lib (job ∷ jobs) = CanRender lib job.recipe × AreShown lib jobs
+
 -- What the machine keeps.
 pub record IsMachine {M F : Type 0} (lib : Library F) (library : M) (line : List Cell) (jobs : List Job) (results : List (RenderedOf M)) : Type 0 where
   pub sound : IsSound lib line
   pub results_are : AreOf library results
   pub one_open : HasOneOpen jobs
+  pub shown : AreShown lib jobs
 
 -- The same machine in another state.
 abbrev pub in_state : {M : Type 0} → State → MachineOf M → MachineOf M

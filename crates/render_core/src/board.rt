@@ -3,7 +3,7 @@
 ghost use Rattle.std.specs.Prelude.{◌≡◌, ◌≢◌, ℕ, ◌+◌, ◌-◌, ◌^◌, ◌<◌, ◌≤◌, List, [], ◌++◌, length, Some, Option, IfOk, OnOk, OnErr, MatchResult, vec_capacity, slice_get, false, Err, IsTrue, ◌↔◌};
 ghost use Rattle.std.specs.List.{position};
 ghost use Rattle.tl_model.specs.Edit.{IsEdit};
-ghost use Rattle.tl_model.specs.Media.{RenderedOf};
+ghost use Rattle.tl_model.specs.Media.{RenderedOf, CanRender};
 ghost use Rattle.tl_model.specs.declared.journal.Act.TheVariants as act;
 ghost use Rattle.tl_model.specs.declared.journal.Entry.{Entry};
 ghost use Rattle.render_core.specs.declared.reply.Full.TheVariants as full;
@@ -223,10 +223,12 @@ impl<M: Media, L: Lane> Board<M, L> {
         Ok(reply)
     }
 
-    /// Takes the lowest queued job. Room and memory for its end are kept, so that it can always be given back.
+    /// Takes the lowest queued job, whose recipe can be rendered. Room and memory for its end are kept, so that it can
+    /// always be given back.
     pub fn claim(&mut self, by: u32) -> Result<ClaimReply, Full>
         ensures done { Claims M.library self.old self.new by result }
         ensures held { IfClaimed result (λ claim. Holds (state_of M.library self.new) by claim.job claim.recipe) }
+        ensures renders { IfClaimed result (λ claim. CanRender (M.library self.new.library) claim.recipe) }
     {
         let len = self.journal.len() as u64;
         if self.machine.is_stopped() {

@@ -13,3 +13,6 @@ pub use board::Board;
 pub use claim::{Claim, Stopper};
 pub use job::Job;
 pub use reply::{CancelReply, ClaimReply, FileReply, Full, PlayReply, ReleaseReply, WantReply};
+
+#[cfg(test)]
+mod tests;

@@ -4,7 +4,7 @@ ghost use Rattle.std.specs.Prelude.{◌≡◌, ℕ, ◌+◌, ◌-◌, ◌<◌, �
 ghost use Rattle.std.specs.Option.{option_map};
 ghost use Rattle.std.specs.List.{position};
 ghost use Rattle.tl_model.specs.Edit.{IsEdit};
-ghost use Rattle.tl_model.specs.Media.{RenderedOf};
+ghost use Rattle.tl_model.specs.Media.{RenderedOf, CanRender};
 ghost use Rattle.tl_model.specs.declared.journal.Act.TheVariants as act;
 ghost use Rattle.time_list.specs.Cells.{recipes};
 ghost use Rattle.render_core.specs.State.{start, is_queued, Holds};
@@ -138,6 +138,7 @@ impl<M: Media, L: Lane> Machine<M, L> {
         ensures state { self.new ≡ in_state (claimed by (Some place) self.old.state) self.old }
         ensures job { result.job ≡ place + 1 }
         ensures recipe { option_map (λ job. job.recipe) (slice_get self.old.state.jobs place) ≡ Some result.recipe }
+        ensures renders { CanRender (M.library self.old.library) result.recipe }
     {
         let job = job::hold(&mut self.jobs, place, by);
         Claim {

@@ -6,6 +6,8 @@ use Rattle.std.specs.List.{count_by}
 use Rattle.std.proofs.lemmas.List.{length-take}
 use Rattle.time_list.specs.Cells.{recipes}
 use Rattle.render_core.proofs.Jobs as jobs
+use Rattle.render_core.specs.Parts.{AreShown}
+use Rattle.render_core.proofs.Renders.{shown-close}
 use Rattle.render_core.proofs.machine.Machine.cancel.Goals as goal
 
 pub overflow_cast-count : goal.overflow_cast-count
@@ -21,4 +23,5 @@ invariant_of-self g c = record {
   sound = c.self.invariant.sound;
   results_are = c.self.invariant.results_are;
   one_open = subst HasOneOpen (sym c.close_range.ensures) (jobs.one_open-close _ c.args.at c.self.inside.jobs.items c.self.invariant.one_open);
+  shown = subst (AreShown (g.M.Media.library c.self.inside.library.value)) (sym c.close_range.ensures) (shown-close (g.M.Media.library c.self.inside.library.value) _ c.args.at c.self.inside.jobs.items c.self.invariant.shown);
 }

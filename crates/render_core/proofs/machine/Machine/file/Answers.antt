@@ -6,6 +6,8 @@ use Rattle.render_core.specs.Claim.{ClaimOf}
 use Rattle.render_core.specs.Parts.{MachineOf, HasOneOpen, recipes_of}
 use Rattle.render_core.proofs.Jobs.{read_is, one_open-let_go, one_open-ended}
 use Rattle.render_core.proofs.Turns.{held_inside, AreOf-filed, ends_closed, ends_open, recipes-filed}
+use Rattle.render_core.specs.Parts.{AreShown}
+use Rattle.render_core.proofs.Renders.{shown-let_go, shown-ended}
 use Rattle.render_core.proofs.machine.Machine.file.Goals as goal
 
 pub invariant_of-self : goal.invariant_of-self
@@ -13,6 +15,7 @@ invariant_of-self g c = record {
   sound = c.self.invariant.sound;
   results_are = c.self.invariant.results_are;
   one_open = subst HasOneOpen (sym c.let_go.ensures.jobs) (one_open-let_go (c.claim.inside.job - 1) c.self.inside.jobs.items c.let_go.result c.let_go.ensures.job c.self.invariant.one_open);
+  shown = subst (AreShown (g.M.Media.library c.self.inside.library.value)) (sym c.let_go.ensures.jobs) (shown-let_go (g.M.Media.library c.self.inside.library.value) (c.claim.inside.job - 1) c.self.inside.jobs.items c.self.invariant.shown);
 }
 
 pub returns-in-Some : goal.returns-in-Some
@@ -37,6 +40,7 @@ invariant_of-self-2 g c =
       sound = c.self.invariant.sound;
       results_are = AreOf-filed c.self.inside.library.value c.self.inside.cache c.args.rendered c.self.inside.filed.items c.truncate.new.self.items library c.self.invariant.results_are (c.truncate.ensures.items ∙ ap (take c.self.inside.cache) c.in_default-insert.ensures.items);
       one_open = subst HasOneOpen (sym c.end.ensures) (one_open-ended c.args.at (c.claim.inside.job - 1) c.self.inside.jobs.items _ held c.self.invariant.one_open);
+      shown = subst (AreShown (g.M.Media.library c.self.inside.library.value)) (sym c.end.ensures) (shown-ended (g.M.Media.library c.self.inside.library.value) c.args.at (c.claim.inside.job - 1) c.self.inside.jobs.items c.self.invariant.shown);
     }
 
 pub returns : goal.returns

@@ -18,6 +18,7 @@ invariant_of-self g c =
       sound = c.self.invariant.sound;
       results_are = AreOf-moved c.self.inside.library.value place c.remove-rendered.result filed c.insert.new.self.items c.self.invariant.results_are item (inserted ∙ ap (λ (rs : List (RenderedOf _)). c.remove-rendered.result ∷ rs) c.remove-rendered.ensures.items);
       one_open = c.self.invariant.one_open;
+      shown = c.self.invariant.shown;
     }
 
 pub returns-clause-turn : goal.returns-clause-turn
