@@ -1,14 +1,13 @@
 //! A session of three passes that plays a table of calls. Passes 1 and 2 may each hold a job.
 
 ghost use Rattle.std.specs.Prelude.{ℕ, ◌^◌, ◌≤◌};
-ghost use Rattle.tl_model.specs.Media.{CanRender};
-ghost use Rattle.render_core.specs.Numbers.{numbers};
 
 use super::numbers::Numbers;
 use crate::board::Board;
 use crate::claim::{Claim, Stopper};
 use crate::reply::{CancelReply, ClaimReply, FileReply, Full, PlayReply, ReleaseReply, WantReply};
 use std::alloc::Global;
+use std::marker::Model;
 use std::process::Abort;
 use time_list::ListLane;
 use tl_model::{Act, Edit, EditReply, Recipe, RenderFault, Rendered};
@@ -42,7 +41,18 @@ pub(super) struct Row {
 /// A claim whose recipe can be rendered.
 struct Hand {
     claim: Claim,
-    ghost shown: { CanRender numbers claim.recipe },
+}
+
+impl Model for Hand {
+    ghost use Rattle.tl_model.specs.Media.{CanRender};
+    ghost use Rattle.render_core.specs.Claim.{ClaimOf};
+    ghost use Rattle.render_core.specs.Numbers.{numbers};
+
+    ghost Value = { ClaimOf };
+
+    ghost view = { λ h. h.claim };
+
+    ghost invariant = { λ h. CanRender numbers h.claim.recipe };
 }
 
 /// The board, the right to stop it, and what passes 1 and 2 hold.
