@@ -7,6 +7,7 @@ use Rattle.tl_model.specs.declared.edit.EditReply.{EditReply}
 use Rattle.tl_model.specs.declared.journal.Act.{Act}
 use Rattle.tl_model.specs.declared.journal.Act.TheVariants as act
 use Rattle.tl_model.specs.declared.journal.Entry.{Entry}
+use Rattle.tl_model.specs.declared.recipe.Recipe.{Recipe}
 use Rattle.render_core.specs.declared.reply.Full.{Full}
 use Rattle.render_core.specs.declared.reply.Full.TheVariants as full
 use Rattle.render_core.specs.declared.reply.WantReply.{WantReply}
@@ -142,3 +143,11 @@ IfClaimed (Ok (claims.Claimed claim)) fact = fact claim
 IfClaimed (Ok (claims.Stopped len)) fact = Unit {0}
 IfClaimed (Ok (claims.Idle len)) fact = Unit {0}
 IfClaimed (Err why) fact = Unit {0}
+
+-- A fact for the recipe that isn't filed.
+abbrev pub IfPending : {F : Type 0} → Result (PlayReply F) Full → (Recipe → Type 0) → Type 0
+IfPending (Ok (play.Pending recipe)) fact = fact recipe
+IfPending (Ok (play.Frame frame)) fact = Unit {0}
+IfPending (Ok (play.Fault fault)) fact = Unit {0}
+IfPending (Ok (play.PastEnd len)) fact = Unit {0}
+IfPending (Err why) fact = Unit {0}

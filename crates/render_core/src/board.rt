@@ -13,7 +13,7 @@ ghost use Rattle.render_core.specs.Calls.{CallOf, entered, Runs, Journals};
 ghost use Rattle.render_core.specs.Step.{IsJournal, state_after, is_filed};
 ghost use Rattle.tl_model.specs.declared.recipe.Recipe.{Recipe};
 ghost use Rattle.time_list.specs.Cells.{recipes};
-ghost use Rattle.render_core.specs.Board.{BoardOf, state_of, IsSame, HasRoom, MakesRoom, RoomFor, Does, Adds, Pays, Claims, IfClaimed, of_edit, of_want, of_cancel, of_file, of_release, of_play};
+ghost use Rattle.render_core.specs.Board.{BoardOf, state_of, IsSame, HasRoom, MakesRoom, RoomFor, Does, Adds, Pays, Claims, IfClaimed, of_edit, of_want, of_cancel, of_file, of_release, of_play, IfPending};
 
 use crate::claim::{Claim, Stopper};
 use crate::machine::Machine;
@@ -292,11 +292,12 @@ impl<M: Media, L: Lane> Board<M, L> {
         reply
     }
 
-    /// Plays frame `n`: its picture, exactly where its recipe is filed. While `spare` is at least 1, only a frame whose
+    /// Plays frame `n`: its picture, exactly where its recipe is filed; a pending recipe can be rendered. While `spare` is at least 1, only a frame whose
     /// recipe is filed can want memory, since its picture is shared then.
     pub fn play(&mut self, by: u32, n: u32) -> Result<PlayReply<M::Frame>, Full>
         ensures done { Does M.library self.old self.new by (act.Play n) of_play result }
         ensures uses { 1 ≤ self.old.spare → OnOk result (self.new.spare + 1 ≡ self.old.spare) }
+        ensures renders { IfPending result (λ recipe. CanRender (M.library self.new.library) recipe) }
         ensures filed { 1 ≤ self.old.spare → result ≡ Err full.NoMemory → IsTrue (is_filed (slice_get (recipes (state_of M.library self.old).line) n) (state_of M.library self.old)) }
     {
         match self.make_room(1) {

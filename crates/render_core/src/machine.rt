@@ -9,7 +9,7 @@ ghost use Rattle.tl_model.specs.declared.journal.Act.TheVariants as act;
 ghost use Rattle.time_list.specs.Cells.{recipes};
 ghost use Rattle.render_core.specs.State.{start, is_queued, Holds};
 ghost use Rattle.render_core.specs.Step.{step, reply, claimed, is_filed};
-ghost use Rattle.render_core.specs.Board.{Turns, of_edit, of_want, of_cancel, of_file, of_release, of_play};
+ghost use Rattle.render_core.specs.Board.{Turns, of_edit, of_want, of_cancel, of_file, of_release, of_play, IfPending};
 ghost use Rattle.render_core.specs.Parts.{MachineOf, in_state};
 
 use crate::claim::Claim;
@@ -191,6 +191,7 @@ impl<M: Media, L: Lane> Machine<M, L> {
 
     pub(crate) fn play(&mut self, n: u32) -> Result<PlayReply<M::Frame>, Full>
         ensures turn { Turns self.old self.new (step (M.library self.old.library) self.old.cache 0 0 (act.Play n) self.old.state) (reply (M.library self.old.library) (act.Play n) self.old.state) of_play result }
+        ensures renders { IfPending result (λ recipe. CanRender (M.library self.old.library) recipe) }
         ensures filed { OnErr result (IsTrue (is_filed (slice_get (recipes self.old.state.line) n) self.old.state)) }
     {
         let frames = self.lane.frames();

@@ -1,10 +1,11 @@
 use Rattle.std.proofs.Common.{List, length, Some, ◌∷◌, refl, sym, ap, subst, ◌∙◌}
 use Rattle.std.proofs.lemmas.Option.{slice_get_read, same_Some}
-use Rattle.tl_model.specs.Media.{RenderedOf}
+use Rattle.tl_model.specs.Media.{RenderedOf, CanRender}
 use Rattle.render_core.specs.Board.{of_play}
 use Rattle.render_core.specs.Step.{picture_of}
-use Rattle.render_core.specs.Parts.{Places, recipes_of}
+use Rattle.render_core.specs.Parts.{MachineOf, Places, recipes_of}
 use Rattle.render_core.proofs.Turns.{place_within, AreOf-at, AreOf-moved, plays}
+use Rattle.render_core.proofs.Renders.{line-renders}
 use Rattle.render_core.proofs.machine.Machine.play.Goals as goal
 
 pub invariant_of-self : goal.invariant_of-self
@@ -35,3 +36,8 @@ returns-clause-turn g c =
     plays g.M.Media.library _ c.args.self.now c.args.n place c.recipe_in-recipe.result filed c.insert.new.self.items c.remove-rendered.result (of_play c.in-Ok.given) c.self.view_is refl c.recipe_in-recipe.ensures p item library
     (inserted ∙ ap (λ (rs : List (RenderedOf _)). c.remove-rendered.result ∷ rs) c.remove-rendered.ensures.items)
     (c.in-Ok.ensures ∙ ap (λ (x : RenderedOf _). picture_of ((g.M.Media.library x.library).render x.recipe)) same)
+
+pub returns-in_default-clause-renders : goal.returns-in_default-clause-renders
+returns-in_default-clause-renders g c =
+    let library = ap (λ (m : MachineOf _). m.library) c.self.view_is in
+    subst (λ lib. CanRender (g.M.Media.library lib) c.recipe_in-recipe.result) library (line-renders (g.M.Media.library c.self.inside.library.value) (g.L.Lane.cells c.self.inside.lane) c.args.n c.recipe_in-recipe.result c.self.invariant.sound.shown c.recipe_in-recipe.ensures)
