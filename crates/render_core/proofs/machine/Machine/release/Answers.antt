@@ -1,0 +1,14 @@
+use Rattle.std.proofs.Common.{◌-◌, sym, subst}
+use Rattle.render_core.specs.Parts.{HasOneOpen}
+use Rattle.render_core.proofs.Jobs as jobs
+use Rattle.render_core.specs.Parts.{AreShown}
+use Rattle.render_core.proofs.Renders.{shown-let_go}
+use Rattle.render_core.proofs.machine.Machine.release.Goals as goal
+
+pub invariant_of-self : goal.invariant_of-self
+invariant_of-self g c = record {
+  sound = c.self.invariant.sound;
+  results_are = c.self.invariant.results_are;
+  one_open = subst HasOneOpen (sym c.let_go-held.ensures.jobs) (jobs.one_open-let_go (c.claim.inside.job - 1) c.self.inside.jobs.items c.let_go-held.result c.let_go-held.ensures.job c.self.invariant.one_open);
+  shown = subst (AreShown (g.M.Media.library c.self.inside.library.value)) (sym c.let_go-held.ensures.jobs) (shown-let_go (g.M.Media.library c.self.inside.library.value) (c.claim.inside.job - 1) c.self.inside.jobs.items c.self.invariant.shown);
+}

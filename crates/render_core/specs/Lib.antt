@@ -1,0 +1,7 @@
+pub mod Claim
+pub mod State
+pub mod Step
+pub mod Board
+pub mod Parts
+pub mod Calls
+pub mod Numbers

@@ -1,0 +1,48 @@
+-- A library for tests: two clips of ten frames, of which the first fits. A picture is the number of its frame, and frame 9 can't be rendered.
+use Rattle.std.specs.Prelude.{ℕ, ◌==◌, if◌then◌else◌, true, false, List, [], ◌∷◌, Some, Result, Ok, Err}
+use Rattle.tl_model.specs.Media.{Library}
+use Rattle.tl_model.specs.declared.fault.FrameFault.{FrameFault}
+use Rattle.tl_model.specs.declared.fault.FrameFault.TheVariants as fault
+use Rattle.tl_model.specs.declared.fault.RenderFault.{RenderFault}
+use Rattle.tl_model.specs.declared.recipe.Side.{Side}
+use Rattle.tl_model.specs.declared.recipe.Side.TheVariants as side
+use Rattle.tl_model.specs.declared.recipe.Recipe.{Recipe}
+use Rattle.tl_model.specs.declared.recipe.Recipe.TheVariants as recipe
+
+abbrev pub picture : (clip frame : ℕ) → Result ℕ RenderFault
+picture clip frame = if frame == 9 then Err (record { clip = clip; frame = frame; kind = fault.Empty }) else Ok frame
+
+abbrev pub shown : Side → Result ℕ RenderFault
+shown side.Black = Ok 255
+shown (side.Clip clip frame) = picture clip frame
+
+-- The picture of a dissolve is its weight.
+abbrev pub mixed : (from to : Result ℕ RenderFault) → ℕ → Result ℕ RenderFault
+mixed (Err why) to weight = Err why
+mixed (Ok from) (Err why) weight = Err why
+mixed (Ok from) (Ok to) weight = Ok weight
+
+abbrev pub number_of : Recipe → Result ℕ RenderFault
+number_of recipe.Black = shown side.Black
+number_of (recipe.Source clip frame) = picture clip frame
+number_of (recipe.Mix from to weight) = mixed (shown from) (shown to) weight
+
+abbrev pub unpacked : List ℕ → Result ℕ FrameFault
+unpacked [] = Err fault.Empty
+unpacked (number ∷ rest) = Ok number
+
+abbrev pub numbers : Library ℕ
+numbers = record {
+  clips = 2;
+  frames = λ clip. 10;
+  fits = λ clip. clip == 0;
+  copies = λ clip. false;
+  packet = λ clip frame. [];
+  record_bytes = 1 ∷ [];
+  width = 1;
+  height = 1;
+  has_shape = λ number. true;
+  render = number_of;
+  coded = λ number. Some (number ∷ []);
+  unpacked = unpacked;
+}

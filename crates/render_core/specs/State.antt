@@ -1,0 +1,78 @@
+-- The state of the machine: the timeline, the jobs, and the recipes of the filed results, latest first.
+use Rattle.std.specs.Prelude.{◌≡◌, ℕ, zero, suc, ◌+◌, ◌-◌, ◌≤◌, if◌then◌else◌, not, ◌&&◌, ◌||◌, Bool, false, List, [], ◌∷◌, ◌++◌, take, drop, slice_get, Option, Some, None, is_some, is_none}
+use Rattle.std.specs.List.{count_by, list_any}
+use Rattle.tl_model.specs.Recipe.{same_recipe}
+use Rattle.tl_model.specs.declared.recipe.Recipe.{Recipe}
+use Rattle.time_list.specs.Cells.{Cell, recipes, is_among}
+use Rattle.render_core.specs.declared.job.Job.{Job}
+
+-- Jobs are counted from 1, in order.
+pub record State : Type 0 where
+  pub line : List Cell
+  pub jobs : List Job
+  pub filed : List Recipe
+  pub is_stopped : Bool
+
+abbrev pub start : State
+start = record { line = []; jobs = []; filed = []; is_stopped = false }
+
+abbrev pub is_open : Job → Bool
+is_open job = is_none job.closed
+
+abbrev pub is_held : Job → Bool
+is_held job = is_some job.holder
+
+abbrev pub is_queued : Job → Bool
+is_queued job = is_open job && not (is_held job)
+
+-- A job that no pass holds is free; a job that is closed at an entry keeps its holder.
+abbrev pub held : ℕ → Job → Job
+held pass job = record { recipe = job.recipe; holder = Some pass; closed = job.closed }
+
+abbrev pub let_go : Job → Job
+let_go job = record { recipe = job.recipe; holder = None; closed = job.closed }
+
+abbrev pub ended : ℕ → Job → Job
+ended at job = record { recipe = job.recipe; holder = None; closed = Some at }
+
+abbrev pub close_if : (Recipe → Bool) → ℕ → Job → Job
+close_if test at job = if is_open job && test job.recipe then record { recipe = job.recipe; holder = job.holder; closed = Some at } else job
+
+-- The job at a place is changed.
+abbrev pub update : ℕ → (Job → Job) → List Job → List Job
+update i change [] = []
+update zero change (job ∷ jobs) = change job ∷ jobs
+update (suc i) change (job ∷ jobs) = job ∷ update i change jobs
+
+-- The recipes of `len` frames from `first` on.
+abbrev pub range : ℕ → ℕ → List Cell → List Recipe
+range first len line = take len (drop first (recipes line))
+
+abbrev pub has_open : Recipe → List Job → Bool
+has_open recipe jobs = list_any (λ job. is_open job && same_recipe recipe job.recipe) jobs
+
+-- A recipe that isn't filed and has no open job gets the next job.
+abbrev pub want_one : List Recipe → Recipe → List Job → List Job
+want_one filed recipe jobs = if is_among recipe filed || has_open recipe jobs then jobs else jobs ++ record { recipe = recipe; holder = None; closed = None } ∷ []
+
+abbrev pub want_all : List Recipe → List Recipe → List Job → List Job
+want_all filed [] jobs = jobs
+want_all filed (recipe ∷ rest) jobs = want_all filed rest (want_one filed recipe jobs)
+
+-- A recipe comes first. It stands once in a list of distinct recipes.
+abbrev pub without : Recipe → List Recipe → List Recipe
+without recipe [] = []
+without recipe (r ∷ rs) = if same_recipe recipe r then rs else r ∷ without recipe rs
+
+abbrev pub put_first : Recipe → List Recipe → List Recipe
+put_first recipe filed = recipe ∷ without recipe filed
+
+-- What is to be filed, released or made by a stop.
+abbrev pub owed : State → ℕ
+owed s = (if s.is_stopped then 0 else 1) + count_by is_held s.jobs
+
+-- The pass holds job n, which has this recipe.
+pub record Holds (s : State) (pass n : ℕ) (recipe : Recipe) : Type 0 where
+  pub counted : 1 ≤ n
+  pub closed : Option ℕ
+  pub is_job : slice_get s.jobs (n - 1) ≡ Some (record { recipe = recipe; holder = Some pass; closed = closed })
