@@ -1,0 +1,6 @@
+pub mod Tables
+pub mod Parameters
+pub mod Reading
+pub mod Spelling
+pub mod Sink
+pub mod Suits

@@ -1,0 +1,15 @@
+//! The configuration record of FFV1 version 3, both ways: RFC 9043 sections 4.2 and 4.3.
+//!
+//! A record is read from the private data of a clip and says how the frames of the clip are coded: the coder and its state
+//! transition table, the chroma planes, the grid of slices, and the quantization tables.
+#![tactic(auto)]
+
+mod fault;
+mod field_reader;
+mod record;
+mod table_reader;
+mod tables;
+
+pub use fault::RecordFault;
+pub use record::{Coder, Record};
+pub use tables::TableSet;
