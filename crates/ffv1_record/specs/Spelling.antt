@@ -28,14 +28,24 @@ unfoldable pub transition : ℕ → List ℕ → List (ℕ × Bool)
 transition coder_type table = if coder_type == 2 then deltas (drop 1 USUAL) (drop 1 table) else []
 
 unfoldable pub chroma : Chroma → List (ℕ × Bool)
-chroma Grey = flag false ++ (number 0 ++ number 0)
-chroma (Shifts h v) = flag true ++ (number h ++ number v)
+chroma Grey = flag false ++ number 0 ++ number 0
+chroma (Shifts h v) = flag true ++ number h ++ number v
+
+-- version, micro_version, coder_type and the deltas
+unfoldable pub coding : ℕ → List ℕ → List (ℕ × Bool)
+coding coder_type table = number 3 ++ number 4 ++ number coder_type ++ transition coder_type table
+
+-- colorspace_type, bits_per_raw_sample, the chroma planes, and no extra plane
+unfoldable pub planes : ℕ → Chroma → List (ℕ × Bool)
+planes bits shifts = number 0 ++ number bits ++ chroma shifts ++ flag false
+
+-- the grid of slices, and the number of table sets
+unfoldable pub grid : ℕ → ℕ → ℕ → List (ℕ × Bool)
+grid columns rows sets = number (columns - 1) ++ number (rows - 1) ++ number sets
 
 -- the fields before the tables
 unfoldable pub before_tables : Parameters → List (ℕ × Bool)
-before_tables p =
-    number 3 ++ (number 4 ++ (number p.coder_type ++ (transition p.coder_type p.transition ++ (number 0 ++ (number p.bits_per_sample
-    ++ (chroma p.chroma ++ (flag false ++ (number (p.columns - 1) ++ (number (p.rows - 1) ++ number (length p.sets))))))))))
+before_tables p = coding p.coder_type p.transition ++ planes p.bits_per_sample p.chroma ++ grid p.columns p.rows (length p.sets)
 
 -- the runs of a table, each by its length less 1
 unfoldable pub runs : List ℕ → List (ℕ × Bool)
@@ -46,9 +56,12 @@ unfoldable pub flags : ℕ → List (ℕ × Bool)
 flags zero = []
 flags (suc n) = flag false ++ flags n
 
--- states_coded of each set, and the fields after it
-unfoldable pub after_tables : Parameters → List (ℕ × Bool)
-after_tables p = flags (length p.sets) ++ (number (if p.ec then 1 else 0) ++ number p.intra)
+-- states_coded of each set, ec and intra
+unfoldable pub ending : ℕ → Bool → ℕ → List (ℕ × Bool)
+ending sets ec intra = flags sets ++ number (if ec then 1 else 0) ++ number intra
+
+abbrev pub after_tables : Parameters → List (ℕ × Bool)
+after_tables p = ending (length p.sets) p.ec p.intra
 
 -- tables as bits with their states: each has a fresh set of its own
 unfoldable pub coded_tables : List (List ℕ) → List (ℕ × Bool)

@@ -6,6 +6,7 @@
 
 mod fault;
 mod field_reader;
+mod field_writer;
 mod record;
 mod table_reader;
 mod tables;

@@ -1,16 +1,18 @@
 //! The configuration record.
-ghost use Rattle.std.specs.Prelude.{◌≡◌, ◌≤◌, IfSome, length};
+ghost use Rattle.std.specs.Prelude.{◌≡◌, ◌≤◌, IfSome, IfOk, OnOk, length};
 ghost use Rattle.ffv1_record.specs.Reading.{Gives, fields_at, parameters};
 ghost use Rattle.ffv1_record.specs.Parameters.{IsRecord};
+ghost use Rattle.ffv1_record.specs.Spelling.{record_bytes, with_parity};
 
 use crate::fault::RecordFault;
 use crate::field_reader::FieldReader;
+use crate::field_writer::FieldWriter;
 use crate::tables::TableSet;
 use ffv1_range::Transition;
 use pic_planes::Chroma;
-use std::alloc::Global;
+use std::alloc::{AllocError, Global};
 use std::marker::Model;
-use tl_base::{big_u32, parity};
+use tl_base::{big_u32, parity, put_big_u32};
 
 /// How samples are coded.
 #[derive(Clone, Copy, Debug, PartialEq, Eq)]
@@ -67,6 +69,24 @@ impl Record {
         Record::from_fields(alloc, &mut fields)
     }
 
+    /// Writes the record: its bytes, which are read again as the record.
+    #[tactic(auto, unfolding(crate::specs::Spelling::record_bytes))]
+    pub fn write(&self, alloc: Global) -> Result<Vec<u8>, AllocError>
+        ensures { IfOk result (λ bytes. bytes.items ≡ record_bytes self.now) }
+    {
+        let usual = Transition::usual();
+        let mut fields = FieldWriter::start(alloc, &usual);
+        let sets = self.sets.len() as u32;
+        fields.coding(self.coder_type, &self.table)?;
+        fields.planes(self.chroma)?;
+        fields.grid(self.columns, self.rows, sets)?;
+        fields.sets(self.sets.as_slice())?;
+        fields.ending(sets, self.ec, self.intra)?;
+        let mut bytes = fields.finish()?;
+        put_parity(&mut bytes)?;
+        Ok(bytes)
+    }
+
     #[tactic(auto, unfolding(crate::specs::Reading::fields_at))]
     fn from_fields(alloc: Global, fields: &mut FieldReader) -> Result<Record, RecordFault>
         ensures { Gives (λ r. r) result (fields_at fields.old) }
@@ -90,4 +110,15 @@ impl Record {
             intra,
         })
     }
+}
+
+// Puts the parity of bytes behind them.
+#[tactic(auto, unfolding(crate::specs::Spelling::with_parity))]
+fn put_parity(bytes: &mut Vec<u8>) -> Result<(), AllocError>
+    ensures { OnOk result (bytes.new.items ≡ with_parity bytes.old.items) }
+{
+    let mut last = [0; 4];
+    put_big_u32(&mut last, parity(bytes.as_slice()));
+    bytes.extend_from_slice(&last)?;
+    Ok(())
 }
