@@ -1,14 +1,15 @@
 -- The bytes of a record, as a writer of its fields gives them.
-use Rattle.std.proofs.Common.{◌≡◌, ℕ, ◌+◌, Bool, List, [], ◌∷◌, ◌++◌, length, map, refl, sym, ap, ◌∙◌}
+use Rattle.std.proofs.Common.{◌≡◌, ℕ, ◌+◌, Bool, List, [], ◌∷◌, ◌++◌, length, map, ◌<◌, ◌^◌, refl, sym, ap, subst, ◌∙◌}
 use Rattle.std.proofs.lemmas.List.{length-map}
 use Rattle.pic_planes.specs.declared.shape.Chroma.{Chroma}
+use Rattle.pic_planes.specs.Shape.{AreShifts}
 use Rattle.ffv1_range.specs.declared.transition.TheConstants.{USUAL}
 use Rattle.ffv1_range.specs.Writing.{Writing, started, put_all, part}
 use Rattle.ffv1_range.specs.Symbol.{with_states, set_after}
 use Rattle.ffv1_range.specs.Law.{written}
 use Rattle.ffv1_record.specs.Reading.{fresh}
-use Rattle.ffv1_record.specs.Tables.{set_of}
-use Rattle.ffv1_record.specs.Parameters.{Parameters, parameters_of, runs_of}
+use Rattle.ffv1_record.specs.Tables.{set_of, AreSets}
+use Rattle.ffv1_record.specs.Parameters.{Parameters, parameters_of, runs_of, IsGrid, IsTableFor, IsRecord}
 use Rattle.ffv1_record.specs.Spelling.{runs, coding, planes, grid, ending, before_tables, after_tables, coded_tables, coded_sets, coded, with_parity, record_bytes}
 use Rattle.ffv1_record.specs.Sink.{Sink, sink, wrote, wrote_table, wrote_tables, wrote_sets}
 use Rattle.ffv1_record.proofs.Sinks.{put_all-table, put_all-append, appended, in_turn_3}
@@ -86,3 +87,16 @@ bytes_of_fields coder_type transition chroma columns rows sets ec intra count w 
     ∙ in_one (before_tables p) (after_tables p) sets
     ∙ ap (λ (rs : List (List (List ℕ))). written USUAL (with_states USUAL fresh (before_tables p) ++ (coded_sets rs ++ with_states USUAL (set_after USUAL fresh (before_tables p)) (after_tables p)))) (sym (runs_of-sets sets)) in
     is_bytes ∙ ap with_parity (is_part ∙ ap part one)
+
+-- a record by its fields has what a record can have
+pub is_record : (coder_type : ℕ) (transition : List ℕ) (chroma : Chroma) (columns rows : ℕ) (sets : List (List (List ℕ))) (ec : Bool) (intra : ℕ)
+    → IsTableFor coder_type transition → AreShifts chroma → IsGrid columns rows → AreSets sets → intra < 2 ^ 32 → IsRecord (parameters_of coder_type transition chroma columns rows sets ec intra)
+is_record coder_type transition chroma columns rows sets ec intra table shifts grid sound small = record {
+  table = table;
+  bits = refl;
+  chroma = shifts;
+  grid = grid;
+  sets = subst AreSets (sym (runs_of-sets sets)) sound;
+  tables = ap (map set_of) (sym (runs_of-sets sets));
+  intra = small;
+}

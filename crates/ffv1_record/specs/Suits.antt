@@ -17,13 +17,14 @@ last_start cells size = (cells - 1) * size / cells
 abbrev pub ReachesEnd : ℕ → ℕ → ℕ → Type 0
 ReachesEnd cells size shift = last_start cells size / 2 ^ shift + shifted_up (size - last_start cells size) shift ≡ shifted_up size shift
 
-abbrev pub ReachesEnds : Parameters → Layout → Chroma → Type 0
-ReachesEnds p shape Grey = Unit {0}
-ReachesEnds p shape (Shifts h v) = ReachesEnd p.columns shape.width h × ReachesEnd p.rows shape.height v
+-- The last column and row of slices reach the ends of the chroma planes.
+abbrev pub ReachesEnds : ℕ → ℕ → ℕ → ℕ → Chroma → Type 0
+ReachesEnds columns rows width height Grey = Unit {0}
+ReachesEnds columns rows width height (Shifts h v) = ReachesEnd columns width h × ReachesEnd rows height v
 
 -- The chroma is the shape's, the grid isn't larger than the picture, and it reaches the ends of the planes.
 pub record Suits (p : Parameters) (shape : Layout) : Type 0 where
   pub chroma : p.chroma ≡ shape.chroma
   pub columns : p.columns ≤ shape.width
   pub rows : p.rows ≤ shape.height
-  pub reaches : ReachesEnds p shape shape.chroma
+  pub reaches : ReachesEnds p.columns p.rows shape.width shape.height p.chroma

@@ -7,10 +7,12 @@
 mod fault;
 mod field_reader;
 mod field_writer;
+mod law;
 mod record;
 mod table_reader;
 mod tables;
 
 pub use fault::RecordFault;
+pub use law::record_reads_back;
 pub use record::{Coder, Record};
 pub use tables::TableSet;
