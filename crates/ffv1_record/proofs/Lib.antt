@@ -6,3 +6,4 @@ pub mod Fields
 pub mod Deltas
 pub mod States
 pub mod Round
+pub mod Defaults

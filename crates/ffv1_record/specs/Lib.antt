@@ -4,3 +4,4 @@ pub mod Reading
 pub mod Spelling
 pub mod Sink
 pub mod Suits
+pub mod Default

@@ -64,9 +64,9 @@ impl<'a> FieldWriter<'a> {
         Ok(())
     }
 
-    // The difference of an entry of the state transition table from the usual one.
+    /// The difference of an entry of the state transition table from the usual one.
     #[tactic(auto, unfolding(crate::specs::Sink::wrote))]
-    fn delta(&mut self, usual: u8, entry: u8) -> Result<(), AllocError>
+    pub(crate) fn delta(&mut self, usual: u8, entry: u8) -> Result<(), AllocError>
         ensures { OnOk result (self.new ≡ wrote self.old (spelling (pos entry +ℤ neg_ℤ (pos usual)) true)) }
     {
         self.writer

@@ -4,6 +4,7 @@
 //! transition table, the chroma planes, the grid of slices, and the quantization tables.
 #![tactic(auto)]
 
+mod default;
 mod fault;
 mod field_reader;
 mod field_writer;
@@ -12,7 +13,11 @@ mod record;
 mod table_reader;
 mod tables;
 
+pub use default::default_record;
 pub use fault::RecordFault;
 pub use law::record_reads_back;
 pub use record::{Coder, Record};
 pub use tables::TableSet;
+
+#[cfg(test)]
+mod tests;

@@ -1,8 +1,10 @@
 //! The configuration record.
-ghost use Rattle.std.specs.Prelude.{◌≡◌, ◌≤◌, ◌<◌, ◌+◌, ◌-◌, ◌/◌, ◌^◌, ◌↔◌, IsSome, IfSome, IfOk, IsTrue, OnOk, Ok, length};
+ghost use Rattle.std.specs.Prelude.{◌≡◌, ◌≤◌, ◌<◌, ◌+◌, ◌-◌, ◌/◌, ◌^◌, ◌↔◌, IsSome, IfSome, IfOk, IsTrue, OnOk, Ok, true, length};
 ghost use Rattle.ffv1_record.specs.Reading.{Gives, fields_at, parameters};
 ghost use Rattle.pic_planes.specs.Shape.{AreShifts, IsShape, IsSize, layout};
-ghost use Rattle.ffv1_record.specs.Parameters.{IsGrid};
+ghost use Rattle.ffv1_record.specs.Parameters.{IsGrid, parameters_of};
+ghost use Rattle.ffv1_record.specs.Tables.{AreSets};
+ghost use Rattle.ffv1_record.specs.Default.{coder_type_of};
 ghost use Rattle.ffv1_record.specs.Suits.{Suits, ReachesEnd, ReachesEnds};
 ghost use Rattle.ffv1_record.specs.Spelling.{record_bytes, with_parity};
 
@@ -11,7 +13,7 @@ use crate::field_reader::FieldReader;
 use crate::field_writer::FieldWriter;
 use crate::law::record_reads_back;
 use crate::tables::TableSet;
-use ffv1_range::Transition;
+use ffv1_range::{Transition, USUAL};
 use pic_planes::{Chroma, Shape};
 use std::alloc::{AllocError, Global};
 use std::marker::Model;
@@ -118,6 +120,31 @@ impl Record {
 }
 
 impl Record {
+    /// A record of the usual state transition table, with error correction and key frames only.
+    pub(crate) fn of_fields(
+        coder: Coder,
+        chroma: Chroma,
+        columns: u32,
+        rows: u32,
+        sets: Vec<TableSet>,
+    ) -> Record
+        requires chroma { AreShifts chroma }
+        requires grid { IsGrid columns rows }
+        requires sets { AreSets sets.items }
+        ensures { result ≡ parameters_of (coder_type_of coder) USUAL chroma columns rows sets.items true 1 }
+    {
+        Record {
+            coder_type: coder_type_of(coder),
+            table: Transition::usual(),
+            chroma,
+            columns,
+            rows,
+            sets,
+            ec: true,
+            intra: 1,
+        }
+    }
+
     /// How samples are coded.
     pub fn coder(&self) -> Coder
         ensures { (result ≡ Coder.Rice) ↔ (self.now.coder_type ≡ 0) }
@@ -214,9 +241,9 @@ impl Record {
     }
 }
 
-// Puts the parity of bytes behind them.
+/// Puts the parity of bytes behind them.
 #[tactic(auto, unfolding(crate::specs::Spelling::with_parity))]
-fn put_parity(bytes: &mut Vec<u8>) -> Result<(), AllocError>
+pub(crate) fn put_parity(bytes: &mut Vec<u8>) -> Result<(), AllocError>
     ensures { OnOk result (bytes.new.items ≡ with_parity bytes.old.items) }
 {
     let mut last = [0; 4];
@@ -273,4 +300,13 @@ fn shifted_up(size: u32, step: u32) -> u32
     ensures { result ≡ (size + (step - 1)) / step }
 {
     (size + (step - 1)) / step
+}
+
+fn coder_type_of(coder: Coder) -> u8
+    ensures { result ≡ coder_type_of coder }
+{
+    match coder {
+        Coder::Range => 1,
+        Coder::Rice => 0,
+    }
 }
