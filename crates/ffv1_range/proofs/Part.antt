@@ -1,15 +1,14 @@
 -- The bytes of what was written, as a number.
-use Rattle.std.proofs.Common.{◌≡◌, ℕ, zero, suc, ◌+◌, ◌-◌, ◌*◌, ◌/◌, ◌%◌, ◌^◌, ◌<◌, ◌≤◌, min, Bool, true, false, cond, ltb, leb, List, [], ◌∷◌, ◌++◌, length, get_or, refl, sym, ap, ◌∙◌, subst, arith, add-one, append-nil, inl, inr}
+use Rattle.std.proofs.Common.{◌≡◌, ℕ, zero, suc, ◌+◌, ◌-◌, ◌*◌, ◌/◌, ◌%◌, ◌^◌, ◌<◌, ◌≤◌, min, Bool, true, false, ltb, leb, List, [], ◌∷◌, ◌++◌, length, refl, sym, ap, ◌∙◌, subst, arith, append-nil, inl, inr}
 use Rattle.std.specs.Prelude.{slice_index}
 use Rattle.std.specs.Int.{byte_at, bytes_high_first}
 use Rattle.std.proofs.Math.Nat.{pow-suc, pow-succ', one-le-pow, div-add-mod, add-mul-mod_self_left, mod-eq_of_lt}
 use Rattle.std.proofs.Math.Seq.{get_or-append_right}
 use Rattle.std.proofs.lemmas.Nat.{mod_below, mul-add-lt, div_below}
-use Rattle.std.proofs.lemmas.Bool.{cases_lt, lt-ltb, le-ltb, le-leb, lt-leb, cases_Bool}
-use Rattle.std.proofs.lemmas.Bool.Decides.{nat_tests}
-use Rattle.ffv1_range.specs.Reading.{Reading, one_part, zero_part, opened, bit_of, narrowed, renewed, after_bit, bits_read, after_bits}
+use Rattle.std.proofs.lemmas.Bool.{cases_lt, lt-ltb, le-ltb, lt-leb, cases_Bool}
+use Rattle.ffv1_range.specs.Reading.{Reading, one_part, zero_part, opened, bit_of, narrowed, renewed, after_bit, after_bits}
 use Rattle.ffv1_range.specs.Writing.{Writing, started, chosen, shifted, put, put_all, part, closed, AreStates}
-use Rattle.ffv1_range.specs.Law.{states_of, bits_of, written, ReadsBack, ReadsOpenPart, ReadsClosedPart, ReadsClosedParts}
+use Rattle.ffv1_range.specs.Law.{states_of, written, ReadsOpenPart, ReadsClosedParts}
 use Rattle.ffv1_range.proofs.Stream.{first_bytes, first_bytes-next, IsBytes, IsWithin, Tracks, one_part_lt, put-wide, ReadsOn, reads_on, tracks_opened, within_before}
 
 -- ---- a number by its bytes

@@ -1,19 +1,19 @@
 -- A symbol as a computation and as a spelling.
-use Rattle.std.proofs.Common.{◌≡◌, ℕ, zero, suc, ◌+◌, ◌-◌, ◌*◌, ◌/◌, ◌%◌, ◌^◌, ◌<◌, ◌≤◌, min, Bool, true, false, cond, eqb, ℤ, pos, negsuc, neg_ℤ, nat_abs, List, [], ◌∷◌, ◌++◌, map, Option, Some, None, refl, sym, ap, ◌∙◌, subst, append_assoc, arith, add-one, inl, inr}
-use Rattle.std.specs.Prelude.{slice_index, slice_set, Result, IfOk, OnErr}
+use Rattle.std.proofs.Common.{◌≡◌, ℕ, zero, suc, ◌+◌, ◌*◌, ◌/◌, ◌^◌, ◌<◌, min, Bool, true, false, cond, eqb, ℤ, pos, negsuc, neg_ℤ, nat_abs, List, [], ◌∷◌, ◌++◌, Option, Some, None, refl, sym, ap, ◌∙◌, subst, append_assoc, arith, add-one, inl, inr}
+use Rattle.std.specs.Prelude.{slice_index, Result, IfOk, OnErr}
 use Rattle.std.specs.Option.{ok_or}
 use Rattle.ffv1_range.specs.declared.reader.TooLong.{TooLong}
 use Rattle.std.specs.Int.{bit_at}
-use Rattle.ffv1_range.specs.Transition.{moved, next_state}
-use Rattle.ffv1_range.specs.Reading.{Reading, bit_of, narrowed, renewed, after_bit, bits_read, after_bits}
+use Rattle.ffv1_range.specs.Transition.{moved}
+use Rattle.ffv1_range.specs.Reading.{Reading, narrowed, renewed, after_bit, bits_read, after_bits}
 use Rattle.ffv1_range.specs.Symbol.{Source, source, magnitude_bits, sign_bits, bit_at_place, after_place, Reads, ones, low_bits, spelling, too_long, exponent_of, is_negative, exponent_at, magnitude_at, signed_at, value_at, symbol_at, with_states, set_after}
 use Rattle.ffv1_range.specs.Law.{states_of, bits_of, IsSpelled, ReadsSymbols, CodesInTurn, NoPrefix}
-use Rattle.std.proofs.lemmas.Bool.{cases_Bool, eqb-true, eqb-false, false≢true, true≢false, cases_lt, ne_eqb, eq-eqb, cases_eq}
+use Rattle.std.proofs.lemmas.Bool.{cases_Bool, false≢true, true≢false, ne_eqb, eq-eqb, cases_eq}
 use Rattle.std.proofs.lemmas.Bool.Decides.{nat_tests}
 use Rattle.std.proofs.lemmas.Nat.{shr-shr, pow_pos, le-div, div_below, mod_below}
 use Rattle.ffv1_range.proofs.Steps.{exponent_of-bounds, exponent_of-is, spelling-zero, spelling-some, magnitude_bits-is}
 use Rattle.std.proofs.lemmas.Nat.Bits.{bit_at-lt}
-use Rattle.std.proofs.Math.Nat.{pow-suc, pow-succ', div-add-mod, pow-le-pow_right}
+use Rattle.std.proofs.Math.Nat.{pow-succ', div-add-mod, pow-le-pow_right}
 
 -- a list of bits without its first, and the first one's bit
 abbrev tail : List (ℕ × Bool) → List (ℕ × Bool)

@@ -1,9 +1,9 @@
 -- Tables of transitions and the states that they keep.
-use Rattle.std.proofs.Common.{◌≡◌, ℕ, zero, suc, ◌+◌, ◌-◌, ◌<◌, ◌≤◌, ◌↔◌, Bool, true, false, ◌&&◌, ◌||◌, not, ltb, leb, List, length, replicate, get_or, refl, sym, ap, ◌∙◌, subst, arith, inl, inr}
+use Rattle.std.proofs.Common.{◌≡◌, ℕ, zero, suc, ◌-◌, ◌<◌, ◌≤◌, ◌↔◌, Bool, true, false, ◌&&◌, ◌||◌, not, ltb, leb, List, length, replicate, sym, ◌∙◌, subst, arith, inl, inr}
 use Rattle.std.specs.Prelude.{slice_index}
 use Rattle.std.proofs.lemmas.List.{get_or-replicate, get_or_past}
 use Rattle.std.proofs.lemmas.Bool.{lt-ltb, ltb-true, leb-true, le-leb, and_from, and_parts, agree_below, agree_below_at, cases_lt}
-use Rattle.ffv1_range.specs.Transition.{IsTransition, IsZeroStates, IsKept, AllKept, one_state, zero_state, next_state}
+use Rattle.ffv1_range.specs.Transition.{IsTransition, IsKept, AllKept, one_state, zero_state, next_state}
 
 pub fresh_kept : (table : List ℕ) → IsKept table 128 → AllKept table (replicate 32 128)
 fresh_kept table kept k small =

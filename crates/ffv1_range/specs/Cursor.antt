@@ -1,7 +1,7 @@
 -- What the fields of a writer stand for.
 use Rattle.std.specs.Prelude.{ℕ, ◌+◌, ◌*◌, ◌^◌, ◌≤◌, List, take, length}
 use Rattle.std.specs.List.{fold}
-use Rattle.ffv1_range.specs.declared.writer.Cursor.{Cursor}
+use Rattle.ffv1_range.specs.declared.cursor.Cursor.{Cursor}
 use Rattle.ffv1_range.specs.Writing.{Writing}
 
 -- bytes as one number, the highest first

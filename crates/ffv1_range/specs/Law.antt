@@ -1,5 +1,5 @@
 -- The law of the range coder: reading what was written gives the bits back.
-use Rattle.std.specs.Prelude.{◌≡◌, ℕ, ◌-◌, ◌+◌, ◌<◌, ◌^◌, min, Bool, false, ℤ, nat_abs, List, [], ◌∷◌, ◌++◌, map, length, slice_index, Some, None}
+use Rattle.std.specs.Prelude.{◌≡◌, ℕ, ◌-◌, ◌<◌, ◌^◌, min, Bool, false, ℤ, nat_abs, List, [], ◌∷◌, ◌++◌, map, slice_index, Some, None}
 use Rattle.ffv1_range.specs.Reading.{Reading, opened, bits_read, after_bits}
 use Rattle.ffv1_range.specs.Writing.{Writing, started, put_all, part, closed, AreStates}
 use Rattle.ffv1_range.specs.Symbol.{Source, Reads, source, spelling, too_long, symbol_at, with_states, set_after, is_negative}

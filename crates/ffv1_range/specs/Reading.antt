@@ -1,5 +1,5 @@
 -- Coded bits, read. RFC 9043 section 3.8.1.1, in its letters: range R, low L, and for a bit the parts r and t of the range.
-use Rattle.std.specs.Prelude.{◌≡◌, ℕ, ◌+◌, ◌-◌, ◌*◌, ◌/◌, ◌^◌, min, Bool, if◌then◌else◌, nat_lt, nat_le, List, [], ◌∷◌, drop, slice_index}
+use Rattle.std.specs.Prelude.{ℕ, ◌+◌, ◌-◌, ◌*◌, ◌/◌, ◌^◌, min, Bool, if◌then◌else◌, nat_lt, nat_le, List, [], ◌∷◌, drop, slice_index}
 
 -- What a reader stands at. The bytes that are left are followed by zeros. `taken` counts the bytes taken, those after the end
 -- too, up to 2 ^ 64 - 1.

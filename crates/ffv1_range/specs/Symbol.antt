@@ -1,5 +1,5 @@
 -- Symbols: numbers as coded bits. RFC 9043 section 3.8.1.2. A set has 32 states, and a symbol's bits have places in it.
-use Rattle.std.specs.Prelude.{◌≡◌, ℕ, zero, suc, ◌+◌, ◌-◌, ◌*◌, ◌<◌, min, ℤ, pos, negsuc, neg_ℤ, nat_abs, Bool, true, false, if◌then◌else◌, ◌==◌, List, [], ◌∷◌, ◌++◌, slice_index, Option, Some, None}
+use Rattle.std.specs.Prelude.{◌≡◌, ℕ, zero, suc, ◌+◌, ◌-◌, ◌*◌, min, ℤ, pos, negsuc, neg_ℤ, nat_abs, Bool, true, false, if◌then◌else◌, ◌==◌, List, [], ◌∷◌, ◌++◌, slice_index, Option, Some, None}
 use Rattle.std.specs.Int.{bit_at, leading_zeros, w32}
 use Rattle.ffv1_range.specs.Transition.{moved}
 use Rattle.ffv1_range.specs.Reading.{Reading, bit_of, after_bit}

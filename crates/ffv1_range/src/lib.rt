@@ -4,6 +4,7 @@
 //! with one of a set's 32 states.
 #![tactic(auto)]
 
+mod cursor;
 mod law;
 mod reader;
 mod states;

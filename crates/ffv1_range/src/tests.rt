@@ -1,6 +1,9 @@
 //! The range coder on worked pieces.
 
+ghost use Rattle.std.specs.Prelude.{◌≤◌};
+
 use super::{RangeReader, RangeWriter, States, Transition};
+use std::alloc::{AllocError, Global};
 use std::test::Fail;
 
 #[test]
@@ -20,31 +23,72 @@ fn reads_two_bits(rt: HostRuntime) -> Result<(), Fail> {
     Ok(())
 }
 
-// Each list of 1 to 12 bits, each bit with a fresh state of its own, with both kinds of finish.
+// The lowest bits of a list, each written with a fresh state of its own.
+fn written(
+    alloc: Global,
+    table: &Transition,
+    list: u32,
+    count: u8,
+    sentinel: bool,
+) -> Result<Vec<u8>, AllocError>
+    requires { count ≤ 12 }
+{
+    let mut writer = RangeWriter::start(alloc, table);
+    for i in 0..count {
+        let mut state = 128;
+        writer.bit(&mut state, list >> i & 1 == 1)?;
+    }
+    writer.finish(sentinel)
+}
+
+fn is_read(bytes: &[u8], table: &Transition, list: u32, count: u8) -> bool
+    requires { count ≤ 12 }
+{
+    let mut reader = RangeReader::over(bytes, table);
+    for i in 0..count {
+        let mut state = 128;
+        if reader.bit(&mut state) != (list >> i & 1 == 1) {
+            return false;
+        }
+    }
+    true
+}
+
 #[test]
 fn reads_short_lists_back(rt: HostRuntime) -> Result<(), Fail> {
     let table = Transition::usual();
-    for count in 1..13 {
-        for list in 0..1u32 << count {
-            for sentinel in [false, true] {
-                let mut writer = RangeWriter::start(rt.alloc(), &table);
-                for i in 0..count {
-                    writer.bit(&mut 128, list >> i & 1 == 1)?;
-                }
-                let bytes = writer.finish(sentinel)?;
-                let mut reader = RangeReader::over(bytes.as_slice(), &table);
-                for i in 0..count {
-                    assert_eq!(rt; reader.bit(&mut 128), list >> i & 1 == 1);
-                }
-            }
+    for count in 1..13u8 {
+        for list in 0..4096u32 {
+            let bare = written(rt.alloc(), &table, list, count, false)?;
+            assert!(rt; is_read(bare.as_slice(), &table, list, count));
+            let closed = written(rt.alloc(), &table, list, count, true)?;
+            assert!(rt; is_read(closed.as_slice(), &table, list, count));
         }
     }
     Ok(())
 }
 
+// A flag and a value, written and read.
+fn read_back(alloc: Global, table: &Transition, value: i64) -> Result<Option<i64>, AllocError> {
+    let mut writer = RangeWriter::start(alloc, table);
+    let mut set = States::fresh();
+    writer.flag(&mut set, true)?;
+    if value.unsigned_abs() < 0x1_0000_0000 {
+        writer.symbol(&mut set, value, true)?;
+    }
+    let bytes = writer.finish(true)?;
+    let mut reader = RangeReader::over(bytes.as_slice(), table);
+    let mut set = States::fresh();
+    if !reader.flag(&mut set) {
+        return Ok(None);
+    }
+    Ok(reader.symbol(&mut set, true).ok())
+}
+
 #[test]
 fn reads_symbols_back(rt: HostRuntime) -> Result<(), Fail> {
-    let values = [
+    let table = Transition::usual();
+    for value in [
         0,
         1,
         -1,
@@ -54,20 +98,8 @@ fn reads_symbols_back(rt: HostRuntime) -> Result<(), Fail> {
         65_535,
         -4_294_967_295,
         4_294_967_295,
-    ];
-    let table = Transition::usual();
-    let mut writer = RangeWriter::start(rt.alloc(), &table);
-    let mut set = States::fresh();
-    writer.flag(&mut set, true)?;
-    for value in values {
-        writer.symbol(&mut set, value, true)?;
-    }
-    let bytes = writer.finish(true)?;
-    let mut reader = RangeReader::over(bytes.as_slice(), &table);
-    let mut set = States::fresh();
-    assert!(rt; reader.flag(&mut set));
-    for value in values {
-        assert_eq!(rt; reader.symbol(&mut set, true).ok(), Some(value));
+    ] {
+        assert_eq!(rt; read_back(rt.alloc(), &table, value)?, Some(value));
     }
     Ok(())
 }

@@ -1,16 +1,16 @@
 -- Remainders over GF(2), as whole numbers.
-use Rattle.std.proofs.Common.{◌≡◌, ℕ, zero, suc, ◌+◌, ◌-◌, ◌*◌, ◌/◌, ◌%◌, ◌^◌, ◌<◌, ◌≤◌, Bool, true, false, cond, eqb, ltb, List, [], ◌∷◌, ◌++◌, length, replicate, refl, sym, ap, ◌∙◌, subst, append_assoc, append-nil, add-one, add-zero, zero-add, zero-mul, lit<, arith, inl, inr}
-use Rattle.std.specs.Prelude.{slice_index, bit_xor}
+use Rattle.std.proofs.Common.{◌≡◌, ℕ, zero, suc, ◌+◌, ◌-◌, ◌*◌, ◌/◌, ◌%◌, ◌^◌, ◌<◌, ◌≤◌, cond, ltb, List, [], ◌∷◌, ◌++◌, replicate, refl, sym, ap, ◌∙◌, subst, add-zero, zero-add, zero-mul, lit<, arith, inl, inr}
+use Rattle.std.specs.Prelude.{bit_xor}
 use Rattle.std.specs.Int.{bit_at}
 use Rattle.std.specs.Int.Bits.{xor_assoc, xor_self, xor_zero_l, xor_zero_r}
-use Rattle.std.specs.List.{fold, flat_map, AllByRecursion}
-use Rattle.std.proofs.lemmas.Nat.{xor_lt, xor_block, xor_comm, pow_pos, pow-add, mod-pow-add, mod_below, mul-le, pow_below}
+use Rattle.std.specs.List.{fold, AllByRecursion}
+use Rattle.std.proofs.lemmas.Nat.{xor_lt, xor_block, xor_comm, pow_pos, mod-pow-add, mod_below, mul-le, pow_below}
 use Rattle.std.proofs.lemmas.Grind.{flat_map-append}
 use Rattle.std.proofs.lemmas.Nat.Bits.{bit_at-lt}
-use Rattle.std.proofs.lemmas.Bool.{cases_lt, lt-ltb, le-ltb, eqb-true, agree_below, agree_below_at}
+use Rattle.std.proofs.lemmas.Bool.{cases_lt, lt-ltb, le-ltb}
 use Rattle.std.proofs.lemmas.List.Sums.{fold-append}
-use Rattle.std.proofs.Math.Nat.{pow-succ', div-add-mod, le-mul_of_pos_right, mod-eq_of_lt}
-use Rattle.tl_base.specs.Parity.{generator, bits_of, coefficients, reduced, remainder, parity, times, number_of, multiple, IsRemainder}
+use Rattle.std.proofs.Math.Nat.{pow-succ', le-mul_of_pos_right}
+use Rattle.tl_base.specs.Parity.{generator, bits_of, coefficients, reduced, parity, times, IsRemainder}
 
 -- a remainder times x
 unfoldable pub shifted : ℕ → ℕ
@@ -239,6 +239,80 @@ reduced_small r c h = rw (lt-ltb _ _ h) refl
 reduced_large : (r c : ℕ) → 2 ^ 32 ≤ 2 * r + c → reduced r c ≡ bit_xor (2 * r + c) generator
 unfolding reduced
 reduced_large r c h = rw (le-ltb _ _ h) refl
+
+-- ---- four more bytes
+times-none : (r : ℕ) → r ≡ times 0 r
+unfolding times
+times-none r = refl
+
+four : (bytes : List ℕ) (a b c d : ℕ) → bytes ++ a ∷ b ∷ c ∷ d ∷ [] ≡ (((bytes ++ a ∷ []) ++ b ∷ []) ++ c ∷ []) ++ d ∷ []
+four [] a b c d = refl
+four (x ∷ bytes) a b c d = ap (λ (l : List ℕ). x ∷ l) (four bytes a b c d)
+
+-- one more byte, where the parity so far is a number times x ^ k
+byte_at_place : (bytes : List ℕ) (b k y place : ℕ) → b < 256 → y < 2 ^ 32 → place * 2 ^ k ≡ b * 2 ^ 24 → place < 2 ^ 32 → parity bytes ≡ times k y → parity (bytes ++ b ∷ []) ≡ times (k + 8) (bit_xor y place)
+byte_at_place bytes b k y place h below e fits before =
+    let low : times k place ≡ b * 2 ^ 24 = times-small k place (omega (arith, e)) ∙ e in
+    let high : times 32 b ≡ times 8 (times k place) = times-add 24 8 b ∙ ap (times 8) (times-small 24 b (omega arith) ∙ sym low) in
+    parity-next bytes b h
+    ∙ ap (λ x. bit_xor (times 8 x) (times 32 b)) before
+    ∙ ap (λ x. bit_xor (times 8 (times k y)) x) high
+    ∙ sym (times-xor 8 (times k y) (times k place) (times-lt k y below) (times-lt k place fits))
+    ∙ ap (times 8) (sym (times-xor k y place below fits))
+    ∙ sym (times-add k 8 (bit_xor y place))
+
+pub parity-word : (bytes : List ℕ) (a b c d : ℕ) → a < 256 → b < 256 → c < 256 → d < 256
+    → parity (bytes ++ a ∷ b ∷ c ∷ d ∷ []) ≡ times 32 (bit_xor (bit_xor (bit_xor (bit_xor (parity bytes) (a * 2 ^ 24)) (b * 2 ^ 16)) (c * 2 ^ 8)) d)
+parity-word bytes a b c d ha hb hc hd =
+    let p = parity bytes in
+    let y₁ = bit_xor p (a * 2 ^ 24) in
+    let y₂ = bit_xor y₁ (b * 2 ^ 16) in
+    let y₃ = bit_xor y₂ (c * 2 ^ 8) in
+    let l₀ = parity-lt bytes in
+    let l₁ = xor_lt 32 p (a * 2 ^ 24) l₀ (omega arith) in
+    let l₂ = xor_lt 32 y₁ (b * 2 ^ 16) l₁ (omega arith) in
+    let l₃ = xor_lt 32 y₂ (c * 2 ^ 8) l₂ (omega arith) in
+    let e₁ = byte_at_place bytes a 0 p (a * 2 ^ 24) ha l₀ (omega arith) (omega arith) (times-none p) in
+    let e₂ = byte_at_place (bytes ++ a ∷ []) b 8 y₁ (b * 2 ^ 16) hb l₁ (omega arith) (omega arith) e₁ in
+    let e₃ = byte_at_place ((bytes ++ a ∷ []) ++ b ∷ []) c 16 y₂ (c * 2 ^ 8) hc l₂ (omega arith) (omega arith) e₂ in
+    let e₄ = byte_at_place (((bytes ++ a ∷ []) ++ b ∷ []) ++ c ∷ []) d 24 y₃ d hd l₃ (omega arith) (omega arith) e₃ in
+    ap parity (four bytes a b c d) ∙ e₄
+
+-- the same, as a word is put together
+pub with_word : (bytes : List ℕ) (r a b c d a' b' c' d' result : ℕ) → r ≡ parity bytes → a' ≡ a → b' ≡ b → c' ≡ c → d' ≡ d → a < 256 → b < 256 → c < 256 → d < 256
+    → result ≡ times 32 (bit_xor (bit_xor r (bit_xor (a' * 2 ^ 24 % 2 ^ 32) (b' * 2 ^ 16 % 2 ^ 32))) (bit_xor (c' * 2 ^ 8 % 2 ^ 32) d'))
+    → result ≡ parity (bytes ++ a ∷ b ∷ c ∷ d ∷ [])
+with_word bytes r a b c d a' b' c' d' result before ea eb ec ed ha hb hc hd e =
+    let first : a' * 2 ^ 24 % 2 ^ 32 ≡ a * 2 ^ 24 = omega arith in
+    let second : b' * 2 ^ 16 % 2 ^ 32 ≡ b * 2 ^ 16 = omega arith in
+    let third : c' * 2 ^ 8 % 2 ^ 32 ≡ c * 2 ^ 8 = omega arith in
+    let p = parity bytes in
+    e ∙ ap (times 32) (rw (first, second, third, ed, before) refl
+    ∙ ap (λ x. bit_xor x (bit_xor (c * 2 ^ 8) d)) (sym (xor_assoc p (a * 2 ^ 24) (b * 2 ^ 16)))
+    ∙ sym (xor_assoc (bit_xor (bit_xor p (a * 2 ^ 24)) (b * 2 ^ 16)) (c * 2 ^ 8) d))
+    ∙ sym (parity-word bytes a b c d ha hb hc hd)
+
+-- a number's lowest byte apart from the others
+times-split : (n x : ℕ) → x < 2 ^ 32 → times n x ≡ bit_xor (times (8 + n) (x / 256)) (times n (x % 256))
+times-split n x h =
+    let high = x / 256 in
+    let low = x % 256 in
+    let whole : bit_xor (high * 2 ^ 8 + 0) (0 * 2 ^ 8 + low) ≡ bit_xor high 0 * 2 ^ 8 + bit_xor 0 low = xor_block 8 high 0 0 low (omega arith) (omega arith) in
+    let parts : x ≡ bit_xor (high * 2 ^ 8) low = omega (arith, xor_zero_r high, xor_zero_l low) ∙ sym whole ∙ rw (add-zero, zero-mul, zero-add) refl in
+    ap (times n) parts ∙ times-xor n (high * 2 ^ 8) low (omega arith) (omega arith)
+    ∙ ap (λ y. bit_xor (times n y) (times n low)) (sym (times-small 8 high (omega arith)))
+    ∙ ap (λ y. bit_xor y (times n low)) (sym (times-add 8 n high))
+
+-- a number of 32 bits times x ^ 32, by its bytes
+pub times-bytes : (x : ℕ) → x < 2 ^ 32 → times 32 x ≡ bit_xor (bit_xor (bit_xor (times 56 (x / 2 ^ 24)) (times 48 (x / 2 ^ 16 % 256))) (times 40 (x / 2 ^ 8 % 256))) (times 32 (x % 256))
+times-bytes x h =
+    let second : x / 256 / 256 ≡ x / 2 ^ 16 = omega arith in
+    let third : x / 2 ^ 16 / 256 ≡ x / 2 ^ 24 = omega arith in
+    times-split 32 x h
+    ∙ ap (λ y. bit_xor y (times 32 (x % 256))) (times-split 40 (x / 256) (omega arith)
+    ∙ ap (λ y. bit_xor (times 48 y) (times 40 (x / 256 % 256))) second
+    ∙ ap (λ y. bit_xor y (times 40 (x / 256 % 256))) (times-split 48 (x / 2 ^ 16) (omega arith)
+    ∙ ap (λ y. bit_xor (times 56 y) (times 48 (x / 2 ^ 16 % 256))) third))
 
 -- ---- long division leaves the remainder
 quotient_from : (dividend : List ℕ) (n r : ℕ) → AreBits dividend → r < 2 ^ 32

@@ -5,6 +5,7 @@
 mod arithmetic;
 mod crc;
 mod numbers;
+mod table;
 
 pub use arithmetic::{fold8, median_is_middle, median3};
 pub use crc::{parity, parity_is_remainder};

@@ -1,4 +1,4 @@
-use Rattle.std.proofs.Common.{◌≡◌, ◌+◌, ◌-◌, min, true, false, [], ◌∷◌, ◌++◌, List, ℕ, Bool, ap, sym, ◌∙◌, arith}
+use Rattle.std.proofs.Common.{◌+◌, ◌-◌, min, true, false, [], ◌∷◌, ◌++◌, List, ℕ, Bool, ap, ◌∙◌, arith}
 use Rattle.ffv1_range.specs.Symbol.{ones}
 use Rattle.ffv1_range.specs.Cursor.{writing_at}
 use Rattle.ffv1_range.proofs.Steps.{ones-next, ones-end, coded-next}

@@ -1,4 +1,4 @@
-use Rattle.std.proofs.Common.{◌≡◌, ◌+◌, ◌-◌, ◌≤◌}
+use Rattle.std.proofs.Common.{◌≡◌, ◌+◌, ◌≤◌}
 use Rattle.ffv1_range.specs.Transition.{AllKept}
 use Rattle.ffv1_range.specs.Writing.{put_all}
 use Rattle.ffv1_range.specs.Symbol.{low_bits, with_states, set_after}

@@ -1,4 +1,4 @@
-use Rattle.std.proofs.Common.{◌≡◌, ◌+◌, min, false, Bool, ℕ, List, [], ◌∷◌, ◌++◌, ap, sym, ◌∙◌}
+use Rattle.std.proofs.Common.{◌+◌, min, false, Bool, ℕ, List, [], ◌∷◌, ◌++◌, ap, sym, ◌∙◌}
 use Rattle.ffv1_range.specs.Writing.{put_all}
 use Rattle.ffv1_range.specs.Symbol.{ones, low_bits, with_states, set_after}
 use Rattle.ffv1_range.specs.Cursor.{writing_at}

@@ -1,4 +1,4 @@
-use Rattle.std.proofs.Common.{◌≡◌, ◌+◌, ◌∙◌, ap, nat_abs, ℤ, w64, to_z, of_z, FitsSigned}
+use Rattle.std.proofs.Common.{◌+◌, ◌∙◌, ap, nat_abs, w64}
 use Rattle.std.proofs.lemmas.Int.{to_z-of_z}
 use Rattle.ffv1_range.specs.Symbol.{is_negative}
 use Rattle.ffv1_range.specs.Cursor.{writing_at}

@@ -2,6 +2,6 @@ use Rattle.std.proofs.Common.{refl}
 use Rattle.tl_base.specs.Parity.{parity, reduced}
 use Rattle.tl_base.proofs.crc.parity.Goals as goal
 
-pub loop-byte-init : goal.loop-byte-init
+pub loop-i-init : goal.loop-i-init
 unfolding parity reduced
-loop-byte-init c = refl
+loop-i-init c = refl

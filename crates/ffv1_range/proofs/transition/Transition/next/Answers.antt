@@ -1,5 +1,4 @@
-use Rattle.std.proofs.Common.{◌≡◌, ℕ, ◌-◌, ◌<◌, List, get_or, subst, sym, true, false, ◌∙◌}
-use Rattle.std.specs.Prelude.{slice_index}
+use Rattle.std.proofs.Common.{◌≡◌, ℕ, List, get_or, subst, sym, true, false}
 use Rattle.ffv1_range.specs.Transition.{IsTransition, IsKept, zero_state}
 use Rattle.ffv1_range.proofs.Tables.{kept-pos}
 use Rattle.ffv1_range.proofs.transition.Transition.next.Goals as goal

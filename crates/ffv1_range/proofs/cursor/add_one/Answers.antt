@@ -1,7 +1,7 @@
 use Rattle.std.proofs.Common.{◌≡◌, ◌+◌, ◌-◌, ◌*◌, ◌^◌, length, get_or, add-one, arith, rules}
 use Rattle.ffv1_range.proofs.Numbers.{number_of-set}
 use Rattle.std.proofs.Math.Nat.{pow-succ'}
-use Rattle.ffv1_range.proofs.writer.add_one.Goals as goal
+use Rattle.ffv1_range.proofs.cursor.add_one.Goals as goal
 
 pub returns-then-bytes-place-lt255 : goal.returns-then-bytes-place-lt255
 returns-then-bytes-place-lt255 c =

@@ -3,7 +3,7 @@ use Rattle.std.proofs.lemmas.Grind.{common_steps}
 use Rattle.ffv1_range.specs.Writing.{part}
 use Rattle.ffv1_range.specs.Cursor.{number_of}
 use Rattle.ffv1_range.proofs.Numbers.{bytes_high_first-number, fits_take}
-use Rattle.ffv1_range.proofs.writer.end.Goals as goal
+use Rattle.ffv1_range.proofs.cursor.end.Goals as goal
 
 pub returns : goal.returns
 unfolding part
