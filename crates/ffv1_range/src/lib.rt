@@ -14,7 +14,7 @@ mod writer;
 pub use law::{codes_in_turn, no_prefix, reads_closed_part, reads_open_part, reads_symbols};
 pub use reader::{RangeReader, TooLong};
 pub use states::States;
-pub use transition::Transition;
+pub use transition::{Transition, USUAL};
 pub use writer::RangeWriter;
 
 #[cfg(test)]

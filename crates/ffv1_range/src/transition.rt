@@ -4,9 +4,9 @@ ghost use Rattle.ffv1_range.specs.Transition.{IsTransition, IsZeroStates, IsKept
 
 use std::marker::Model;
 
-/// The state after a bit 1, of the table that a stream has where it codes no deltas.
+/// The state after a bit 1 for each state, of the table that a stream has where it codes no deltas.
 #[rattlefmt::skip]
-const USUAL: [u8; 256] = [
+pub const USUAL: [u8; 256] = [
     0, 0, 0, 0, 0, 0, 0, 0, 20, 21, 22, 23, 24, 25, 26, 27,
     28, 29, 30, 31, 32, 33, 34, 35, 36, 37, 37, 38, 39, 40, 41, 42,
     43, 44, 45, 46, 47, 48, 49, 50, 51, 52, 53, 54, 55, 56, 56, 57,

@@ -1,0 +1,7 @@
+use Rattle.std.proofs.Common.{◌≡◌, ◌-◌, drop, map}
+use Rattle.ffv1_record.specs.Spelling.{deltas, runs, flags}
+use Rattle.ffv1_record.specs.Sink.{wrote, wrote_tables, wrote_sets}
+use Rattle.ffv1_record.proofs.field_writer.FieldWriter.deltas.Given as goal
+
+abbrev pub invariant-loop-i : goal.invariant-loop-i
+invariant-loop-i l = wrote l.self (deltas (drop l.i l.usual) (drop l.i l.entries)) ≡ wrote l.fn.self (deltas l.usual l.entries)

@@ -1,0 +1,58 @@
+-- Quantization tables, from the lengths of their runs. RFC 9043 sections 4.9 and 4.10.
+use Rattle.std.specs.Prelude.{◌≡◌, ℕ, zero, suc, ◌+◌, ◌-◌, ◌*◌, ◌/◌, ◌<◌, ◌≤◌, List, [], ◌∷◌, ◌++◌, length, map, reverse, drop, replicate, slice_index, sum, All, ℤ, pos, neg_ℤ}
+
+-- The first 128 entries of a table. Run v, from 0, gives the scale times v to as many entries as its length.
+abbrev pub first_half : ℕ → ℕ → List ℕ → List ℕ
+first_half scale v [] = []
+first_half scale v (run ∷ runs) = replicate run (scale * v) ++ first_half scale (v + 1) runs
+
+-- All 256 entries: entry 256 - k is minus entry k, and entry 128 is minus entry 127.
+abbrev pub mirrored : List ℕ → List ℤ
+mirrored half = map pos half ++ neg_ℤ (pos (slice_index half 127)) ∷ map (λ n. neg_ℤ (pos n)) (reverse (drop 1 half))
+
+abbrev pub table_of : ℕ → List ℕ → List ℤ
+table_of scale runs = mirrored (first_half scale 0 runs)
+
+-- the scale after a table
+abbrev pub next_scale : ℕ → List ℕ → ℕ
+next_scale scale runs = scale * (2 * length runs - 1)
+
+-- the tables of a set from a scale on
+abbrev pub tables_from : ℕ → List (List ℕ) → List (List ℤ)
+tables_from scale [] = []
+tables_from scale (runs ∷ more) = table_of scale runs ∷ tables_from (next_scale scale runs) more
+
+abbrev pub scale_after : ℕ → List (List ℕ) → ℕ
+scale_after scale [] = scale
+scale_after scale (runs ∷ more) = scale_after (next_scale scale runs) more
+
+-- A set of five tables: the lengths of their runs, their entries, and how many contexts they give.
+pub record TableSet : Type 0 where
+  pub runs : List (List ℕ)
+  pub tables : List (List ℤ)
+  pub context_count : ℕ
+
+abbrev pub set_of : List (List ℕ) → TableSet
+set_of runs = record { runs = runs; tables = tables_from 1 runs; context_count = (scale_after 1 runs + 1) / 2 }
+
+-- the lengths of a table's runs: none is 0, and together they are 128
+pub record AreRuns (runs : List ℕ) : Type 0 where
+  pub some : All (λ run. 0 < run) runs
+  pub whole : sum runs ≡ 128
+
+-- no scale is over 32,768
+abbrev pub ScalesFit : ℕ → List (List ℕ) → Type 0
+ScalesFit scale [] = Unit {0}
+ScalesFit scale (runs ∷ more) = (next_scale scale runs ≤ 32768) × ScalesFit (next_scale scale runs) more
+
+-- the runs of a set's five tables
+pub record AreSetRuns (runs : List (List ℕ)) : Type 0 where
+  pub five : length runs ≡ 5
+  pub each : All AreRuns runs
+  pub scales : ScalesFit 1 runs
+
+-- the runs of a record's sets
+pub record AreSets (sets : List (List (List ℕ))) : Type 0 where
+  pub some : 1 ≤ length sets
+  pub few : length sets ≤ 8
+  pub each : All AreSetRuns sets

@@ -1,0 +1,312 @@
+//! The configuration record.
+ghost use Rattle.std.specs.Prelude.{◌≡◌, ◌≤◌, ◌<◌, ◌+◌, ◌-◌, ◌/◌, ◌^◌, ◌↔◌, IsSome, IfSome, IfOk, IsTrue, OnOk, Ok, true, length};
+ghost use Rattle.ffv1_record.specs.Reading.{Gives, fields_at, parameters};
+ghost use Rattle.pic_planes.specs.Shape.{AreShifts, IsShape, IsSize, layout};
+ghost use Rattle.ffv1_record.specs.Parameters.{IsGrid, parameters_of};
+ghost use Rattle.ffv1_record.specs.Tables.{AreSets};
+ghost use Rattle.ffv1_record.specs.Default.{coder_type_of};
+ghost use Rattle.ffv1_record.specs.Suits.{Suits, ReachesEnd, ReachesEnds};
+ghost use Rattle.ffv1_record.specs.Spelling.{record_bytes, with_parity};
+
+use crate::fault::RecordFault;
+use crate::field_reader::FieldReader;
+use crate::field_writer::FieldWriter;
+use crate::law::record_reads_back;
+use crate::tables::TableSet;
+use ffv1_range::{Transition, USUAL};
+use pic_planes::{Chroma, Shape};
+use std::alloc::{AllocError, Global};
+use std::marker::Model;
+use tl_base::{big_u32, parity, put_big_u32};
+
+/// How samples are coded.
+#[derive(Clone, Copy, Debug, PartialEq, Eq)]
+pub enum Coder {
+    /// By the range coder.
+    Range,
+    /// By Golomb-Rice codes.
+    Rice,
+}
+
+/// A configuration record: how the frames of a clip are coded.
+#[derive(Debug, Drop)]
+pub struct Record {
+    coder_type: u8,
+    table: Transition,
+    chroma: Chroma,
+    columns: u32,
+    rows: u32,
+    sets: Vec<TableSet>,
+    ec: bool,
+    intra: u32,
+}
+
+// Clauses see the fields, with the whole tables that the runs of each set give.
+impl Model for Record {
+    ghost use Rattle.std.specs.Prelude.{ℕ};
+    ghost use Rattle.pic_planes.specs.Shape.{AreShifts};
+    ghost use Rattle.ffv1_record.specs.Parameters.{Parameters, parameters_of, IsTableFor, IsGrid};
+    ghost use Rattle.ffv1_record.specs.Tables.{AreSets};
+
+    ghost Value = { Parameters };
+
+    ghost view = { λ a. parameters_of a.coder_type a.table a.chroma a.columns a.rows a.sets.items a.ec a.intra };
+
+    ghost invariant = { λ a. IsTableFor a.coder_type a.table × AreShifts a.chroma × IsGrid a.columns a.rows × AreSets a.sets.items };
+}
+
+impl Record {
+    /// Reads a record: its fields, or the first fault in their order, after `Short` and `Parity`. Bytes after the last field aren't
+    /// read, but count for the parity. RFC 9043 section 4.2.
+    #[tactic(auto, unfolding(crate::specs::Reading::parameters))]
+    pub fn read(alloc: Global, bytes: &[u8]) -> Result<Record, RecordFault>
+        ensures { Gives (λ r. r) result (parameters bytes.now) }
+    {
+        if bytes.len() < 6 {
+            return Err(RecordFault::Short);
+        }
+        let (content, last) = bytes.split_at(bytes.len() - 4);
+        if big_u32(last) != parity(content) {
+            return Err(RecordFault::Parity);
+        }
+        let usual = Transition::usual();
+        let mut fields = FieldReader::over(content, &usual);
+        Record::from_fields(alloc, &mut fields)
+    }
+
+    /// Writes the record: its bytes, which are read again as the record. Its range-coded part has no closing bit, and its parity
+    /// follows. RFC 9043 sections 3.8.1.1.1 and 4.3.2.
+    pub fn write(&self, alloc: Global) -> Result<Vec<u8>, AllocError>
+        ensures bytes { IfOk result (λ bytes. bytes.items ≡ record_bytes self.now) }
+        ensures read_back { IfOk result (λ bytes. parameters bytes.items ≡ Ok self.now) }
+    {
+        record_reads_back();
+        let usual = Transition::usual();
+        let mut fields = FieldWriter::start(alloc, &usual);
+        let sets = self.sets.len() as u32;
+        fields.coding(self.coder_type, &self.table)?;
+        fields.planes(self.chroma)?;
+        fields.grid(self.columns, self.rows, sets)?;
+        fields.sets(self.sets.as_slice())?;
+        fields.ending(sets, self.ec, self.intra)?;
+        let mut bytes = fields.finish()?;
+        put_parity(&mut bytes)?;
+        Ok(bytes)
+    }
+
+    #[tactic(auto, unfolding(crate::specs::Reading::fields_at))]
+    fn from_fields(alloc: Global, fields: &mut FieldReader) -> Result<Record, RecordFault>
+        ensures { Gives (λ r. r) result (fields_at fields.old) }
+    {
+        let coder_type = fields.coder_type()?;
+        let table = fields.transition(alloc, coder_type)?;
+        fields.bits_per_sample()?;
+        let chroma = fields.chroma()?;
+        let (columns, rows) = fields.grid()?;
+        let sets = fields.table_sets(alloc)?;
+        let ec = fields.ec()?;
+        let intra = fields.intra()?;
+        Ok(Record {
+            coder_type,
+            table,
+            chroma,
+            columns,
+            rows,
+            sets,
+            ec,
+            intra,
+        })
+    }
+}
+
+impl Record {
+    /// A record of the usual state transition table, with error correction and key frames only.
+    pub(crate) fn of_fields(
+        coder: Coder,
+        chroma: Chroma,
+        columns: u32,
+        rows: u32,
+        sets: Vec<TableSet>,
+    ) -> Record
+        requires chroma { AreShifts chroma }
+        requires grid { IsGrid columns rows }
+        requires sets { AreSets sets.items }
+        ensures { result ≡ parameters_of (coder_type_of coder) USUAL chroma columns rows sets.items true 1 }
+    {
+        Record {
+            coder_type: coder_type_of(coder),
+            table: Transition::usual(),
+            chroma,
+            columns,
+            rows,
+            sets,
+            ec: true,
+            intra: 1,
+        }
+    }
+
+    /// How samples are coded.
+    pub fn coder(&self) -> Coder
+        ensures { (result ≡ Coder.Rice) ↔ (self.now.coder_type ≡ 0) }
+    {
+        if self.coder_type == 0 {
+            Coder::Rice
+        } else {
+            Coder::Range
+        }
+    }
+
+    /// The state transition table with which slices are coded.
+    pub fn transition(&self) -> &Transition
+        ensures { result.now ≡ self.now.transition }
+    {
+        &self.table
+    }
+
+    /// The chroma planes.
+    pub fn chroma(&self) -> Chroma
+        ensures chroma { result ≡ self.now.chroma }
+        ensures sound { AreShifts result }
+    {
+        self.chroma
+    }
+
+    /// How many slices a row of the grid has.
+    pub fn columns(&self) -> u32
+        ensures columns { result ≡ self.now.columns }
+        ensures sound { IsGrid self.now.columns self.now.rows }
+    {
+        self.columns
+    }
+
+    /// How many slices a column of the grid has.
+    pub fn rows(&self) -> u32
+        ensures rows { result ≡ self.now.rows }
+        ensures sound { IsGrid self.now.columns self.now.rows }
+    {
+        self.rows
+    }
+
+    /// Whether each slice ends with an error status and its parity.
+    pub fn ec(&self) -> bool
+        ensures { result ≡ self.now.ec }
+    {
+        self.ec
+    }
+
+    /// The same record but for ec.
+    pub fn with_ec(self, ec: bool) -> Record
+        ensures { result ≡ record self { ec = ec } }
+    {
+        let Record {
+            coder_type,
+            table,
+            chroma,
+            columns,
+            rows,
+            sets,
+            ec: _,
+            intra,
+        } = self;
+        Record {
+            coder_type,
+            table,
+            chroma,
+            columns,
+            rows,
+            sets,
+            ec,
+            intra,
+        }
+    }
+
+    /// The shape of pictures of a size with the record's chroma. None exactly where a size isn't 1 to 8,192.
+    pub fn shape(&self, width: u32, height: u32) -> Option<Shape>
+        ensures some { IsSome result ↔ IsShape (layout width height self.now.chroma) }
+        ensures shape { IfSome result (λ shape. shape ≡ layout width height self.now.chroma) }
+    {
+        Shape::of(width, height, self.chroma)
+    }
+
+    /// Whether pictures of a shape can be coded: the chroma is the record's, the grid isn't larger than the picture, and its
+    /// slices reach the ends of the planes. RFC 9043 section 4.6.
+    pub fn suits(&self, shape: Shape) -> bool
+        ensures { IsTrue result ↔ Suits self.now shape }
+    {
+        let same = self.chroma == shape.chroma();
+        let width = shape.width();
+        let height = shape.height();
+        let covered = reaches_ends(self.chroma, self.columns, self.rows, width, height);
+        same && self.columns <= width && self.rows <= height && covered
+    }
+}
+
+/// Puts the parity of bytes behind them.
+#[tactic(auto, unfolding(crate::specs::Spelling::with_parity))]
+pub(crate) fn put_parity(bytes: &mut Vec<u8>) -> Result<(), AllocError>
+    ensures { OnOk result (bytes.new.items ≡ with_parity bytes.old.items) }
+{
+    let mut last = [0; 4];
+    put_big_u32(&mut last, parity(bytes.as_slice()));
+    bytes.extend_from_slice(&last)?;
+    Ok(())
+}
+
+// Whether the last column and row of slices reach the ends of the chroma planes.
+fn reaches_ends(chroma: Chroma, columns: u32, rows: u32, width: u32, height: u32) -> bool
+    requires chroma { AreShifts chroma }
+    requires grid { IsGrid columns rows }
+    requires width { IsSize width }
+    requires height { IsSize height }
+    ensures { IsTrue result ↔ ReachesEnds columns rows width height chroma }
+{
+    match chroma {
+        Chroma::Grey => true,
+        Chroma::Shifts { h, v } => reaches_end(columns, width, h) && reaches_end(rows, height, v),
+    }
+}
+
+fn reaches_end(cells: u32, size: u32, shift: u8) -> bool
+    requires cells { 1 ≤ cells }
+    requires few { cells ≤ 1024 }
+    requires size { size ≤ 8192 }
+    requires shift { shift ≤ 2 }
+    ensures { IsTrue result ↔ ReachesEnd cells size shift }
+{
+    let start = (cells - 1) * size / cells;
+    let step = step_of(shift);
+    start / step + shifted_up(size - start, step) == shifted_up(size, step)
+}
+
+// The luma samples of a chroma sample in one direction.
+fn step_of(shift: u8) -> u32
+    requires { shift ≤ 2 }
+    ensures step { result ≡ 2 ^ shift }
+    ensures some { 1 ≤ result }
+    ensures small { result ≤ 4 }
+{
+    match shift {
+        0 => 1,
+        1 => 2,
+        _ => 4,
+    }
+}
+
+// A part of a size, rounded up.
+fn shifted_up(size: u32, step: u32) -> u32
+    requires step { 1 ≤ step }
+    requires small { step ≤ 4 }
+    requires size { size ≤ 8192 }
+    ensures { result ≡ (size + (step - 1)) / step }
+{
+    (size + (step - 1)) / step
+}
+
+fn coder_type_of(coder: Coder) -> u8
+    ensures { result ≡ coder_type_of coder }
+{
+    match coder {
+        Coder::Range => 1,
+        Coder::Rice => 0,
+    }
+}
