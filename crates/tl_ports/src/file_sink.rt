@@ -42,9 +42,9 @@ impl<R: Files> Sink for FileSink<'_, R> {
     fn put(&mut self, bytes: &[u8]) -> Result<(), PutFault> {
         match put_into(self.rt, self.name.as_str(), &mut self.file, bytes) {
             Ok(()) => Ok(()),
-            Err(fault) => {
+            Err(_) => {
                 self.faults = self.faults.saturating_add(1);
-                Err(fault)
+                Err(PutFault::Failed)
             }
         }
     }

@@ -34,9 +34,9 @@ impl<R: Print> Sink for OutSink<'_, R> {
     fn put(&mut self, bytes: &[u8]) -> Result<(), PutFault> {
         match write_whole(&mut io::writer(self.rt), bytes) {
             Ok(()) => Ok(()),
-            Err(fault) => {
+            Err(_) => {
                 self.faults = self.faults.saturating_add(1);
-                Err(fault)
+                Err(PutFault::Failed)
             }
         }
     }
