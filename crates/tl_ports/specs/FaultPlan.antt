@@ -1,5 +1,5 @@
 -- Calls that fail by their numbers.
-use Rattle.std.specs.Prelude.{◌≡◌, ⊥, ℕ, ◌+◌, ◌-◌, ◌/◌, ◌^◌, min, List, ◌++◌, length, take, Contains, Result, Ok, Err}
+use Rattle.std.specs.Prelude.{◌≡◌, ℕ, ◌+◌, ◌-◌, ◌/◌, ◌^◌, min, List, ◌++◌, length, take, Contains, Result, Ok, Err}
 use Rattle.tl_ports.specs.declared.fault_plan.FaultPlan.{FaultPlan}
 use Rattle.tl_ports.specs.declared.fault.PutFault.{PutFault}
 use Rattle.tl_ports.specs.declared.fault.PutFault.TheVariants as putting
