@@ -2,15 +2,15 @@
 
 ghost use Rattle.std.specs.Prelude.{◌≡◌, ◌≤◌, ◌<◌, ◌+◌, ◌++◌, ℕ, List, [], None, Some, IsSome, OnOk, Ok, Err, string_bytes, length, map, take};
 ghost use Rattle.std.specs.List.{AllByRecursion};
-ghost use Rattle.tl_ports.specs.Outside.{Rose, KeepsOthers, KeepsBegun};
+ghost use Rattle.tl_ports.specs.Outside.{KeepsOthers, KeepsBegun};
 ghost use Rattle.mkv_read.specs.Plain.{IsPlainFile, LiesBefore};
 ghost use Rattle.mkv_write.specs.Writing.{WriteHasCause, put_of};
 ghost use Rattle.timeline_app.specs.Reading.{view};
-ghost use Rattle.timeline_app.specs.Run.{IsInside, PlacesLie, bytes_at, with_packets, AddsPackets, WritesExport, EndsExport, ChangesExport, IsPartial, ending_of, started_over};
+ghost use Rattle.timeline_app.specs.Run.{IsInside, PlacesLie, bytes_at, with_packets, AddsPackets, WritesExport, EndsExport, ChangesExport, HoldsPartial, ending_of, started_over};
 
 use crate::job::Job;
 use mkv_read::{ClipIndex, Place};
-use mkv_write::{MkvWriter, WriteFault};
+use mkv_write::{MkvWriter, WriteFault, put_is_prefix};
 use std::alloc::Global;
 use tl_ports::{PutFault, Vault};
 
@@ -52,6 +52,7 @@ fn write_frames<V: Vault>(
     ensures kept { KeepsBegun V.tells V.begun V.file V.faults vault.old vault.new }
     ensures cause { WriteHasCause (V.faults vault.old) (V.faults vault.new) result }
 {
+    put_is_prefix();
     for place in places {
         match writer.frame(vault, bytes_at(bytes, place)) {
             Ok(()) => {}
@@ -72,6 +73,7 @@ fn write_packets<V: Vault>(alloc: Global, job: &Job, vault: &mut V) -> Result<u3
     ensures kept { KeepsBegun V.tells V.begun V.file V.faults vault.old vault.new }
     ensures cause { WriteHasCause (V.faults vault.old) (V.faults vault.new) result }
 {
+    put_is_prefix();
     let clip = &job.index;
     let private = bytes_at(&job.bytes, &clip.private);
     match MkvWriter::start(
@@ -120,7 +122,7 @@ pub fn export<V: Vault>(alloc: Global, job: &Job, vault: &mut V) -> Ending
     requires plain { IsPlainFile job.now.bytes.items job.now.index }
     requires places { PlacesLie job.now.bytes.items job.now.index }
     requires inside { IsInside (view job.now.script) job.now.index }
-    ensures ended { EndsExport V.tells (V.file vault.new) (Rose (V.faults vault.old) (V.faults vault.new)) (view job.now.script) job.now.bytes.items job.now.index result }
+    ensures ended { EndsExport V.tells (V.file vault.new) (V.faults vault.old, V.faults vault.new) (view job.now.script) job.now.bytes.items job.now.index result }
     ensures file { ChangesExport V.tells (V.file vault.old (string_bytes job.now.script.export)) (V.file vault.new (string_bytes job.now.script.export)) (view job.now.script) job.now.bytes.items job.now.index }
     ensures others { KeepsOthers V.tells (string_bytes job.now.script.export) (V.file vault.old) (V.file vault.new) }
     ensures idle { V.begun vault.new ≡ None }
@@ -140,8 +142,8 @@ fn export_begun<V: Vault>(alloc: Global, job: &Job, vault: &mut V) -> Ending
     requires plain { IsPlainFile job.now.bytes.items job.now.index }
     requires places { PlacesLie job.now.bytes.items job.now.index }
     requires inside { IsInside (view job.now.script) job.now.index }
-    ensures ended { EndsExport V.tells (V.file vault.new) (Rose (V.faults vault.old) (V.faults vault.new)) (view job.now.script) job.now.bytes.items job.now.index result }
-    ensures file { V.tells → (held : List ℕ) × (V.file vault.new (string_bytes job.now.script.export) ≡ Some held) × IsPartial held (view job.now.script) job.now.bytes.items job.now.index }
+    ensures ended { EndsExport V.tells (V.file vault.new) (V.faults vault.old, V.faults vault.new) (view job.now.script) job.now.bytes.items job.now.index result }
+    ensures file { HoldsPartial V.tells (V.file vault.new) (view job.now.script) job.now.bytes.items job.now.index }
     ensures others { KeepsOthers V.tells (string_bytes job.now.script.export) (V.file vault.old) (V.file vault.new) }
     ensures idle { V.begun vault.new ≡ None }
     ensures later { V.faults vault.old ≤ V.faults vault.new }
