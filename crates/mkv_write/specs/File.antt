@@ -62,11 +62,11 @@ blocks rate time frame (packet ∷ packets) = simple_block (frame_time rate fram
 unfoldable pub cluster_of : (time : ℕ) (content : List ℕ) → List ℕ
 cluster_of time content = element 4 CLUSTER 8 (number 1 TIMESTAMP 8 time ++ content)
 
--- How many frames a Cluster has. The last one has 1 to as many.
+-- How many frames a Cluster has; the last one has 1 to 25.
 abbrev pub cluster_frames : ℕ
 cluster_frames = 25
 
--- The Cluster of an index, from 0: its packets, fewer than 25 only at the end.
+-- The Cluster of an index, from 0, with 25 packets or, at the end, those that are left.
 unfoldable pub cluster : (rate : ℕ) (packets : List (List ℕ)) (index : ℕ) → List ℕ
 cluster rate packets index =
     let first = cluster_frames * index in

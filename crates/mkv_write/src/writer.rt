@@ -77,8 +77,7 @@ impl MkvWriter {
         requires private { (1 ≤ length private.now) × (length private.now ≤ 65536) }
         requires rate { (1 ≤ rate) × (rate ≤ 240) }
         ensures started { IfOk result (λ writer. writer ≡ nothing_yet private.now width height rate) }
-        ensures put { let w = nothing_yet private.now width height rate in
-            Puts V.tells (V.held vault.new) (put_of w) result }
+        ensures put { Puts V.tells (V.held vault.new) (put_of (nothing_yet private.now width height rate)) result }
         ensures kept { KeepsBegun V.tells V.begun V.file V.faults vault.old vault.new }
         ensures cause { WriteHasCause (V.faults vault.old) (V.faults vault.new) result }
     {
@@ -107,8 +106,7 @@ impl MkvWriter {
         requires size { length packet.now ≤ 2 ^ 40 }
         ensures added { OnOk result (self.new ≡ with_packet self.old packet.now) }
         ensures same { OnErr result (self.new ≡ self.old) }
-        ensures put { let w = with_packet self.old packet.now in
-            Puts V.tells (V.held vault.new) (put_of w) result }
+        ensures put { Puts V.tells (V.held vault.new) (put_of (with_packet self.old packet.now)) result }
         ensures kept { KeepsBegun V.tells V.begun V.file V.faults vault.old vault.new }
         ensures cause { WriteHasCause (V.faults vault.old) (V.faults vault.new) result }
     {
@@ -146,8 +144,7 @@ impl MkvWriter {
         requires last { length self.old.packets % cluster_frames + 1 ≡ cluster_frames }
         ensures added { OnOk result (self.new ≡ with_packet self.old packet.now) }
         ensures same { OnErr result (self.new ≡ self.old) }
-        ensures put { let w = with_packet self.old packet.now in
-            Puts V.tells (V.held vault.new) (put_of w) result }
+        ensures put { Puts V.tells (V.held vault.new) (put_of (with_packet self.old packet.now)) result }
         ensures kept { KeepsBegun V.tells V.begun V.file V.faults vault.old vault.new }
         ensures cause { WriteHasCause (V.faults vault.old) (V.faults vault.new) result }
     {
