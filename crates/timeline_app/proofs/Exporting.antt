@@ -1,5 +1,5 @@
 -- How the writing and the end of the file make the ending of an export.
-use Rattle.std.proofs.Common.{◌≡◌, ◌⊎◌, ℕ, ◌+◌, ◌≤◌, ◌<◌, List, [], ◌∷◌, ◌++◌, get_or, append_assoc, take-append-drop, length, map, take, drop, Option, None, Some, Result, Ok, Err, refl, sym, ap, ◌∙◌, subst, inl, inr, arith}
+use Rattle.std.proofs.Common.{◌≡◌, ◌⊎◌, ℕ, ◌+◌, ◌≤◌, ◌<◌, List, [], ◌∷◌, ◌++◌, get_or, append_assoc, take-append-drop, length, map, take, drop, Option, Some, Result, Ok, Err, refl, sym, ap, ◌∙◌, subst, inl, inr, arith}
 use Rattle.std.proofs.lemmas.List.{append-nil, take_more, take-map, map_push, length-map, length-take-le}
 use Rattle.mkv_read.specs.declared.clip.Place.{Place}
 use Rattle.std.specs.Prelude.{IfOk}

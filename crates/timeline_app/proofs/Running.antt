@@ -1,18 +1,17 @@
 -- What a run did, from what its parts did.
-use Rattle.std.proofs.Common.{◌≡◌, ◌⊎◌, ◌≢◌, ℕ, ◌+◌, ◌≤◌, ◌<◌, Bool, true, false, List, [], ◌++◌, length, take, Option, Some, None, Result, Ok, Err, refl, sym, ap, ◌∙◌, subst, inl, inr, arith}
+use Rattle.std.proofs.Common.{◌≡◌, ◌⊎◌, ℕ, Bool, true, false, List, Option, Some, None, Result, Ok, Err, refl, sym, ap, ◌∙◌, inl, inr, arith}
 use Rattle.std.specs.Str.{bytes_eq}
 use Rattle.std.proofs.lemmas.Slice.Eq.{bytes_eq-Decides}
-use Rattle.tl_ports.specs.Outside.{Rose, KeepsOthers}
+use Rattle.tl_ports.specs.Outside.{KeepsOthers}
 use Rattle.tl_ports.specs.declared.fault.PutFault.{PutFault}
 use Rattle.tl_ports.specs.declared.fault.PutFault.TheVariants as putting
 use Rattle.mkv_read.specs.declared.clip.ClipIndex.{ClipIndex}
 use Rattle.timeline_app.specs.declared.stop.Stop.{Stop}
 use Rattle.timeline_app.specs.declared.stop.Stop.TheVariants as stops
-use Rattle.timeline_app.specs.declared.export.Ending.TheVariants as endings
 use Rattle.timeline_app.specs.Script.{Form}
 use Rattle.timeline_app.specs.Lines.{usage_line, refused_lines}
-use Rattle.timeline_app.specs.Run.{Count, Rises, IsCalm, IsJob, IsInside, IsPartial, Says, Puts, StopsWith, StopHasCause, stop_line, stop_status, status_after, ChangesExport, Plays, PlaysExport, PlaysRefusal, export_lines}
-use Rattle.timeline_app.specs.Top.{Works, Played, Stopped, Unsunk, ChangesOnlyExport, SaysTranscript, Runs}
+use Rattle.timeline_app.specs.Run.{Count, Rises, IsCalm, IsJob, IsInside, IsPartial, Says, Puts, StopsWith, StopHasCause, stop_line, stop_status, status_after, ChangesExport, Plays, export_lines}
+use Rattle.timeline_app.specs.Top.{Works, Stopped, ChangesOnlyExport, SaysTranscript, Runs}
 use Rattle.timeline_app.proofs.Saying.{whole_front}
 
 -- The last line decides only between its status and want of memory.

@@ -1,5 +1,5 @@
 -- What a run does: what it works on, what it puts out, and which status has which cause.
-use Rattle.std.specs.Prelude.{◌≡◌, ◌≢◌, ◌⊎◌, ℕ, ◌<◌, ◌≤◌, Bool, true, false, not, ◌==◌, if◌then◌else◌, List, [], ◌∷◌, ◌++◌, length, map, take, drop, slice_index, Option, Some, None, Result, Ok, Err, string_bytes}
+use Rattle.std.specs.Prelude.{◌≡◌, ◌⊎◌, ℕ, ◌<◌, ◌≤◌, ◌==◌, if◌then◌else◌, List, [], ◌∷◌, ◌++◌, length, map, take, drop, slice_index, Option, Some, None, Result, Ok, Err, string_bytes}
 use Rattle.std.specs.List.{AllByRecursion}
 use Rattle.tl_ports.specs.declared.fault.FetchFault.{FetchFault}
 use Rattle.tl_ports.specs.declared.fault.FetchFault.TheVariants as fetching
@@ -20,7 +20,7 @@ use Rattle.timeline_app.specs.declared.stop.Stop.{Stop}
 use Rattle.timeline_app.specs.declared.stop.Stop.TheVariants as stops
 use Rattle.timeline_app.specs.Script.{Form, script_of}
 use Rattle.timeline_app.specs.Reading.{view}
-use Rattle.timeline_app.specs.Lines.{usage_line, ok_line, asked_line, done_line, sink_line, refused_lines, fault_line, clip_fault_line, store_line, memory_line, export_memory_line}
+use Rattle.timeline_app.specs.Lines.{ok_line, asked_line, done_line, sink_line, refused_lines, fault_line, clip_fault_line, store_line, memory_line, export_memory_line}
 
 -- A count of faults, before and after.
 abbrev pub Count : Type 0

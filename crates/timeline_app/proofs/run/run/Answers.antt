@@ -1,5 +1,4 @@
-use Rattle.std.proofs.Common.{◌≡◌, Option, List, ℕ, sym, subst, map, string_bytes}
-use Rattle.timeline_app.specs.Run.{script_name}
+use Rattle.std.proofs.Common.{sym}
 use Rattle.timeline_app.proofs.Running.{run_misused}
 use Rattle.timeline_app.proofs.run.run.Goals as goal
 
