@@ -1,9 +1,10 @@
--- A faulty script, or one whose clip isn't plain, in a told store that had no fault, leaves no other status than 3 and 5.
+-- A faulty script, or one whose clip has a fault, in a told store that had no fault, leaves no other status than 3 and 5.
 use Rattle.std.proofs.Common.{◌≡◌, ◌⊎◌, ℕ, ◌≤◌, List, length, Option, Some, Result, Ok, Err, ap, subst, inl, inr, arith}
 use Rattle.tl_ports.specs.declared.fault.FetchFault.{FetchFault}
 use Rattle.tl_ports.specs.declared.fault.FetchFault.TheVariants as fetching
 use Rattle.mkv_read.specs.declared.clip.ClipIndex.{ClipIndex}
-use Rattle.mkv_read.specs.Plain.{IsPlainFile}
+use Rattle.mkv_read.specs.declared.fault.ClipFault.{ClipFault}
+use Rattle.mkv_read.specs.Clip.{clip_of}
 use Rattle.timeline_app.specs.declared.stop.Stop.{Stop}
 use Rattle.timeline_app.specs.declared.stop.Stop.TheVariants as stops
 use Rattle.timeline_app.specs.Script.{Form, script_of}
@@ -31,16 +32,16 @@ unfetched tells kept limit rose (fetching.TooLarge of) bytes (inl h) told calm i
 unfetched tells kept limit rose (fetching.TooLarge of) bytes (inr h) told calm is size = absurd (h.0 told)
 unfetched tells kept limit rose fetching.NoMemory bytes h told calm is size = absurd h
 
--- A faulty script isn't of the form, or its clip, that of this script, isn't plain.
+-- A faulty script isn't of the form, or its clip, that of this script, has a fault.
 script_then : {X : Type 0} (tells : Type 0) (file : List ℕ → Option (List ℕ)) (name : List ℕ) (script : Form) → IsScript tells file name script → tells → IsFaulty file name
-    → ((bytes : List ℕ) → file script.file ≡ Some bytes → length bytes ≤ 2147483648 → ((clip : ClipIndex) → IsPlainFile bytes clip → ⊥) → X) → X
+    → ((bytes : List ℕ) → file script.file ≡ Some bytes → length bytes ≤ 2147483648 → (fault : ClipFault) → clip_of bytes ≡ Err fault → X) → X
 script_then tells file name script read told (inl (text, n, at, size, bad)) go =
     let same : read.text ≡ text = same_bytes (file name) read.text text (read.fetched.told told) at in
     ok_or_err (script_of text) script n (subst (λ (t : List ℕ). script_of t ≡ Ok script) same read.form) bad
-script_then tells file name script read told (inr (text, bytes, other, at, size, form, at_clip, clip_size, none_plain)) go =
+script_then tells file name script read told (inr (text, bytes, other, fault, at, size, form, at_clip, clip_size, bad)) go =
     let same : read.text ≡ text = same_bytes (file name) read.text text (read.fetched.told told) at in
     let is : other ≡ script = same_ok (script_of text) other script form (subst (λ (t : List ℕ). script_of t ≡ Ok script) same read.form) in
-    go bytes (subst (λ (s : Form). file s.file ≡ Some bytes) is at_clip) clip_size none_plain
+    go bytes (subst (λ (s : Form). file s.file ≡ Some bytes) is at_clip) clip_size fault bad
 
 works_then : {X : Type 0} (tells : Type 0) (file : List ℕ → Option (List ℕ)) (name : List ℕ) (script : Form) (bytes : List ℕ) (clip : ClipIndex) → Works (Some name) tells file script bytes clip
     → tells → IsFaulty file name → X
@@ -49,18 +50,18 @@ works_then tells file name script bytes clip works told faulty =
     let of : works.of ≡ name = cc in
     let read : IsScript tells file name script = subst (λ (n : List ℕ). IsScript tells file n script) of works.job.read in
     script_then tells file name script read told faulty
-    (λ other at size none_plain.
+    (λ other at size fault bad.
     let same : bytes ≡ other = same_bytes (file script.file) bytes other (works.job.fetched.told told) at in
-    absurd (none_plain clip (subst (λ (b : List ℕ). IsPlainFile b clip) same works.job.plain)))
+    ok_or_err (clip_of other) clip fault (subst (λ (b : List ℕ). clip_of b ≡ Ok clip) same works.job.holds) bad)
 
 stop_then : {X : Type 0} (tells : Type 0) (file : List ℕ → Option (List ℕ)) (name : List ℕ) (rose : Type 0) (stop : Stop) → StopHasCause tells file name rose stop → stop_status stop ≡ 4
     → tells → (rose → ⊥) → IsFaulty file name → X
 stop_then tells file name rose (stops.Unfetched of fault) (inl h) four told calm (inl (text, n, at, size, bad)) = unfetched tells (file name) 16777216 rose fault text h.1 told calm at size
-stop_then tells file name rose (stops.Unfetched of fault) (inl h) four told calm (inr (text, bytes, other, at, size, form, at_clip, clip_size, none_plain)) = unfetched tells (file name) 16777216 rose fault text h.1 told calm at size
+stop_then tells file name rose (stops.Unfetched of fault) (inl h) four told calm (inr (text, bytes, other, fault, at, size, form, at_clip, clip_size, bad)) = unfetched tells (file name) 16777216 rose fault text h.1 told calm at size
 stop_then tells file name rose (stops.Unfetched of fault) (inr (script, read, h)) four told calm faulty =
-    script_then tells file name script read told faulty (λ bytes at size none_plain. unfetched tells (file script.file) 2147483648 rose fault bytes h.1 told calm at size)
+    script_then tells file name script read told faulty (λ bytes at size other bad. unfetched tells (file script.file) 2147483648 rose fault bytes h.1 told calm at size)
 stop_then tells file name rose (stops.Faulty n) cause four told calm faulty = absurd (omega (arith, four))
-stop_then tells file name rose stops.NotPlain cause four told calm faulty = absurd (omega (arith, four))
+stop_then tells file name rose (stops.FaultyClip of) cause four told calm faulty = absurd (omega (arith, four))
 stop_then tells file name rose stops.NoMemory cause four told calm faulty = absurd (omega (arith, four))
 
 stopped_then : {X : Type 0} (tells rose : Type 0) (file : List ℕ → Option (List ℕ)) (name : List ℕ) (out_tells out_rose : Type 0) (before after : List ℕ)

@@ -110,8 +110,8 @@ stopped_by name tells faults file vt vf old ot outf before after (stops.Unfetche
     early_four name tells faults file vt vf old ot outf before after status h.0 (record { of = name; named = refl; stop = stops.Unfetched of fault; cause = cause; status_is = refl; line = h.1 }) lines
 stopped_by name tells faults file vt vf old ot outf before after (stops.Faulty n) status cause (inr h) lines =
     early_three name tells faults file vt vf old ot outf before after status h.0 (record { of = name; named = refl; stop = stops.Faulty n; cause = cause; status_is = refl; line = h.1 }) lines
-stopped_by name tells faults file vt vf old ot outf before after stops.NotPlain status cause (inr h) lines =
-    early_three name tells faults file vt vf old ot outf before after status h.0 (record { of = name; named = refl; stop = stops.NotPlain; cause = cause; status_is = refl; line = h.1 }) lines
+stopped_by name tells faults file vt vf old ot outf before after (stops.FaultyClip fault) status cause (inr h) lines =
+    early_three name tells faults file vt vf old ot outf before after status h.0 (record { of = name; named = refl; stop = stops.FaultyClip fault; cause = cause; status_is = refl; line = h.1 }) lines
 stopped_by name tells faults file vt vf old ot outf before after stops.NoMemory status cause (inr h) lines = early_memory name tells faults file vt vf old ot outf before after status h.0 lines
 
 -- The session didn't start.

@@ -6,7 +6,9 @@ use Rattle.tl_ports.specs.declared.fault.FetchFault.TheVariants as fetching
 use Rattle.tl_ports.specs.Outside.{Rose, KeepsOthers, IsToldOr, IsLonger}
 use Rattle.mkv_read.specs.declared.clip.ClipIndex.{ClipIndex}
 use Rattle.mkv_read.specs.declared.clip.Place.{Place}
-use Rattle.mkv_read.specs.Plain.{IsPlainFile, LiesBefore}
+use Rattle.mkv_read.specs.declared.fault.ClipFault.{ClipFault}
+use Rattle.mkv_read.specs.Clip.{clip_of, IsWithinLimits}
+use Rattle.mkv_read.specs.Plain.{LiesBefore}
 use Rattle.tl_ports.specs.declared.fault.PutFault.{PutFault}
 use Rattle.tl_ports.specs.declared.fault.PutFault.TheVariants as putting
 use Rattle.mkv_write.specs.declared.fault.WriteFault.{WriteFault}
@@ -45,9 +47,10 @@ unfoldable pub script_name : List (List ℕ) → Option (List ℕ)
 script_name (word ∷ []) = if slice_index word 0 == 45 then None else Some word
 script_name other = None
 
--- The record and the packets lie within the file, which isn't too large.
-pub record PlacesLie (bytes : List ℕ) (clip : ClipIndex) : Type 0 where
+-- The clip is within its limits, and its record and its packets lie within the file, which isn't too large.
+pub record IsSound (bytes : List ℕ) (clip : ClipIndex) : Type 0 where
   pub size : length bytes ≤ clip_limit
+  pub limits : IsWithinLimits clip
   pub private : LiesBefore (length bytes) clip.private
   pub packets : AllByRecursion (LiesBefore (length bytes)) clip.packets
 
@@ -66,11 +69,11 @@ pub record IsScript (tells : Type 0) (file : List ℕ → Option (List ℕ)) (na
   pub fetched : IsFetched tells (file name) script_limit text
   pub form : script_of text ≡ Ok script
 
--- A script of the form was fetched, and its clip, a plain file.
+-- A script of the form was fetched, and a file that holds its clip.
 pub record IsJob (tells : Type 0) (file : List ℕ → Option (List ℕ)) (name : List ℕ) (script : Form) (bytes : List ℕ) (clip : ClipIndex) : Type 0 where
   pub read : IsScript tells file name script
   pub fetched : IsFetched tells (file script.file) clip_limit bytes
-  pub plain : IsPlainFile bytes clip
+  pub holds : clip_of bytes ≡ Ok clip
 
 -- The frames lie within the clip.
 abbrev pub IsInside : Form → ClipIndex → Type 0
@@ -96,13 +99,13 @@ abbrev pub ReadsScript : (text : List ℕ) → Result Script Stop → Type 0
 ReadsScript text (Ok script) = script_of text ≡ Ok (view script)
 ReadsScript text (Err (stops.Faulty n)) = script_of text ≡ Err n
 ReadsScript text (Err stops.NoMemory) = Unit {0}
-ReadsScript text (Err stops.NotPlain) = ⊥
+ReadsScript text (Err (stops.FaultyClip fault)) = ⊥
 ReadsScript text (Err (stops.Unfetched name fault)) = ⊥
 
--- The clip's bytes were read: they are a plain file, or none.
+-- The clip's bytes were read: they hold a clip, or have this fault.
 abbrev pub ReadsClip : (bytes : List ℕ) → Result ClipIndex Stop → Type 0
-ReadsClip bytes (Ok clip) = IsPlainFile bytes clip
-ReadsClip bytes (Err stops.NotPlain) = (clip : ClipIndex) → IsPlainFile bytes clip → ⊥
+ReadsClip bytes (Ok clip) = clip_of bytes ≡ Ok clip
+ReadsClip bytes (Err (stops.FaultyClip fault)) = clip_of bytes ≡ Err fault
 ReadsClip bytes (Err stops.NoMemory) = Unit {0}
 ReadsClip bytes (Err (stops.Faulty n)) = ⊥
 ReadsClip bytes (Err (stops.Unfetched name fault)) = ⊥
@@ -112,37 +115,37 @@ abbrev pub IsUnfetchedStop : (tells : Type 0) (kept : Option (List ℕ)) (name :
 IsUnfetchedStop tells kept name limit rose (stops.Unfetched of fault) = (string_bytes of ≡ name) × IsUnfetched tells kept limit rose fault
 IsUnfetchedStop tells kept name limit rose stops.NoMemory = Unit {0}
 IsUnfetchedStop tells kept name limit rose (stops.Faulty n) = ⊥
-IsUnfetchedStop tells kept name limit rose stops.NotPlain = ⊥
+IsUnfetchedStop tells kept name limit rose (stops.FaultyClip fault) = ⊥
 
--- The clip's file of this name wasn't fetched, or it was and isn't a plain file.
+-- The clip's file of this name wasn't fetched, or it was and has this fault.
 abbrev pub IsClipStop : (tells : Type 0) (kept : Option (List ℕ)) (name : List ℕ) (rose : Type 0) → Stop → Type 0
 IsClipStop tells kept name rose (stops.Unfetched of fault) = (string_bytes of ≡ name) × IsUnfetched tells kept clip_limit rose fault
-IsClipStop tells kept name rose stops.NotPlain = (bytes : List ℕ) × IsFetched tells kept clip_limit bytes × ((clip : ClipIndex) → IsPlainFile bytes clip → ⊥)
+IsClipStop tells kept name rose (stops.FaultyClip fault) = (bytes : List ℕ) × IsFetched tells kept clip_limit bytes × (clip_of bytes ≡ Err fault)
 IsClipStop tells kept name rose stops.NoMemory = Unit {0}
 IsClipStop tells kept name rose (stops.Faulty n) = ⊥
 
 -- A session that doesn't start has its cause: the script or, where it is of the form, its clip wasn't fetched; the script was fetched and
--- isn't of the form; or it is, and the clip was fetched and isn't a plain file.
+-- isn't of the form; or it is, and the clip was fetched and has a fault.
 abbrev pub StopHasCause : (tells : Type 0) (file : List ℕ → Option (List ℕ)) (name : List ℕ) (rose : Type 0) → Stop → Type 0
 StopHasCause tells file name rose (stops.Unfetched of fault) =
     ((string_bytes of ≡ name) × IsUnfetched tells (file name) script_limit rose fault)
     ⊎ ((script : Form) × IsScript tells file name script × IsClipStop tells (file script.file) script.file rose (stops.Unfetched of fault))
 StopHasCause tells file name rose (stops.Faulty n) = (text : List ℕ) × IsFetched tells (file name) script_limit text × (script_of text ≡ Err n)
-StopHasCause tells file name rose stops.NotPlain =
-    (script : Form) × IsScript tells file name script × IsClipStop tells (file script.file) script.file rose stops.NotPlain
+StopHasCause tells file name rose (stops.FaultyClip fault) =
+    (script : Form) × IsScript tells file name script × IsClipStop tells (file script.file) script.file rose (stops.FaultyClip fault)
 StopHasCause tells file name rose stops.NoMemory = Unit {0}
 
 -- The line that says why a session doesn't start.
 abbrev pub stop_line : Stop → List ℕ
 stop_line (stops.Unfetched name fault) = store_line (string_bytes name) fault
 stop_line (stops.Faulty n) = fault_line n
-stop_line stops.NotPlain = clip_fault_line
+stop_line (stops.FaultyClip fault) = clip_fault_line fault
 stop_line stops.NoMemory = memory_line
 
 abbrev pub stop_status : Stop → ℕ
 stop_status (stops.Unfetched name fault) = 4
 stop_status (stops.Faulty n) = 3
-stop_status stops.NotPlain = 3
+stop_status (stops.FaultyClip fault) = 3
 stop_status stops.NoMemory = 5
 
 -- A writer of the clip's record and size at the script's rate, before any packet.

@@ -4,12 +4,13 @@ use Rattle.mkv_read.specs.declared.clip.ClipIndex.{ClipIndex}
 use Rattle.timeline_app.specs.declared.export.Ending.{Ending}
 use Rattle.timeline_app.specs.declared.export.Ending.TheVariants as endings
 use Rattle.timeline_app.specs.declared.stop.Stop.{Stop}
-use Rattle.mkv_read.specs.Plain.{IsPlainFile}
+use Rattle.mkv_read.specs.declared.fault.ClipFault.{ClipFault}
+use Rattle.mkv_read.specs.Clip.{clip_of}
 use Rattle.timeline_app.specs.Script.{Form, script_of}
 use Rattle.timeline_app.specs.Lines.{usage_line, refused_lines}
 use Rattle.timeline_app.specs.Run.{Count, Rises, IsCalm, script_limit, clip_limit, IsJob, IsInside, IsPartial, EndsExport, export_of, export_lines, StopHasCause, stop_line, stop_status, Puts, PutsFront}
 
--- A script of the form and its clip, a plain file, were fetched, of the name that the words give.
+-- A script of the form and a file with its clip were fetched, of the name that the words give.
 pub record Works (name : Option (List ℕ)) (tells : Type 0) (file : List ℕ → Option (List ℕ)) (script : Form) (bytes : List ℕ) (clip : ClipIndex) : Type 0 where
   pub of : List ℕ
   pub named : name ≡ Some of
@@ -69,12 +70,12 @@ abbrev pub SaysTranscript : (name : Option (List ℕ)) (tells rose : Type 0) (fi
 SaysTranscript name tells rose file vault_tells vault_faults new out_tells before after =
     (text : List ℕ) × IsTranscript name tells rose file vault_tells vault_faults new text × PutsFront out_tells before after text
 
--- The told script isn't of the form, or it is and its told clip isn't a plain file; neither is over its limit.
+-- The told script isn't of the form, or it is and its told clip has a fault; neither is over its limit.
 abbrev pub IsFaulty : (file : List ℕ → Option (List ℕ)) (name : List ℕ) → Type 0
 IsFaulty file name =
     ((text : List ℕ) × (n : ℕ) × (file name ≡ Some text) × (length text ≤ script_limit) × (script_of text ≡ Err n))
-    ⊎ ((text bytes : List ℕ) × (script : Form) × (file name ≡ Some text) × (length text ≤ script_limit) × (script_of text ≡ Ok script)
-    × (file script.file ≡ Some bytes) × (length bytes ≤ clip_limit) × ((clip : ClipIndex) → IsPlainFile bytes clip → ⊥))
+    ⊎ ((text bytes : List ℕ) × (script : Form) × (fault : ClipFault) × (file name ≡ Some text) × (length text ≤ script_limit) × (script_of text ≡ Ok script)
+    × (file script.file ≡ Some bytes) × (length bytes ≤ clip_limit) × (clip_of bytes ≡ Err fault))
 
 -- What a run did, by its status.
 pub record Runs (name : Option (List ℕ)) (tells : Type 0) (faults : Count) (file : List ℕ → Option (List ℕ)) (vault_tells : Type 0) (vault_faults : Count) (old new : List ℕ → Option (List ℕ))

@@ -1,10 +1,10 @@
 //! Fetching the script and its clip.
 
-ghost use Rattle.std.specs.Prelude.{◌≡◌, ◌≤◌, ℕ, List, IfOk, IfErr, OnOk, string_bytes, length};
+ghost use Rattle.std.specs.Prelude.{◌≡◌, ◌≤◌, ℕ, List, IfOk, IfErr, OnOk, Ok, string_bytes, length};
 ghost use Rattle.tl_ports.specs.Outside.{Rose};
 ghost use Rattle.timeline_app.specs.Reading.{view};
-ghost use Rattle.timeline_app.specs.Run.{clip_limit, IsFetched, IsJob, IsScript, IsUnfetchedStop, IsClipStop, StopHasCause, ReadsScript, ReadsClip, PlacesLie};
-ghost use Rattle.mkv_read.specs.Plain.{IsPlainFile};
+ghost use Rattle.timeline_app.specs.Run.{clip_limit, IsFetched, IsJob, IsScript, IsUnfetchedStop, IsClipStop, StopHasCause, ReadsScript, ReadsClip, IsSound};
+ghost use Rattle.mkv_read.specs.Clip.{clip_of};
 
 use crate::parse::read_script;
 use crate::script::{Script, ScriptRefusal};
@@ -61,13 +61,12 @@ fn script_in(alloc: Global, text: &[u8]) -> Result<Script, Stop>
 fn index_of(alloc: Global, bytes: &[u8]) -> Result<ClipIndex, Stop>
     requires { length bytes.now ≤ clip_limit }
     ensures read { ReadsClip bytes.now result }
-    ensures within { IfOk result (λ clip. PlacesLie bytes.now clip) }
+    ensures within { IfOk result (λ clip. IsSound bytes.now clip) }
 {
     match read_clip(alloc, bytes) {
         Ok(index) => Ok(index),
-        Err(ClipFault::Later) => Err(Stop::NotPlain),
-        // No other fault comes than want of memory.
-        Err(_) => Err(Stop::NoMemory),
+        Err(ClipFault::NoMemory) => Err(Stop::NoMemory),
+        Err(fault) => Err(Stop::FaultyClip { fault }),
     }
 }
 
@@ -93,8 +92,8 @@ fn fetch_clip<T: Store>(
 ) -> Result<(Vec<u8>, ClipIndex), Stop>
     ensures fetched { IfOk result (λ clip. IsFetched T.tells (T.file store.old file.now) clip_limit clip.0.items) }
     ensures calm { OnOk result (T.faults store.new ≡ T.faults store.old) }
-    ensures plain { IfOk result (λ clip. IsPlainFile clip.0.items clip.1) }
-    ensures within { IfOk result (λ clip. PlacesLie clip.0.items clip.1) }
+    ensures holds { IfOk result (λ clip. clip_of clip.0.items ≡ Ok clip.1) }
+    ensures within { IfOk result (λ clip. IsSound clip.0.items clip.1) }
     ensures stop { IfErr result (IsClipStop T.tells (T.file store.old file.now) file.now (Rose (T.faults store.old) (T.faults store.new))) }
     ensures files { (other : List ℕ) → T.file store.new other ≡ T.file store.old other }
     ensures later { T.faults store.old ≤ T.faults store.new }
@@ -113,7 +112,7 @@ pub fn fetch_job<T: Store>(alloc: Global, store: &mut T, name: &str) -> Result<J
     ensures job { IfOk result (λ job. IsJob T.tells (T.file store.old) name.now (view job.script) job.bytes.items job.index) }
     ensures calm { OnOk result (T.faults store.new ≡ T.faults store.old) }
     ensures stop { IfErr result (StopHasCause T.tells (T.file store.old) name.now (Rose (T.faults store.old) (T.faults store.new))) }
-    ensures within { IfOk result (λ job. PlacesLie job.bytes.items job.index) }
+    ensures within { IfOk result (λ job. IsSound job.bytes.items job.index) }
     ensures files { (other : List ℕ) → T.file store.new other ≡ T.file store.old other }
     ensures later { T.faults store.old ≤ T.faults store.new }
 {

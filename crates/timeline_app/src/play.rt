@@ -1,9 +1,8 @@
 //! Playing a script of the form: the insert, and the export or its refusal.
 
 ghost use Rattle.std.specs.Prelude.{◌≡◌, ◌≤◌, None};
-ghost use Rattle.mkv_read.specs.Plain.{IsPlainFile};
 ghost use Rattle.timeline_app.specs.Reading.{view};
-ghost use Rattle.timeline_app.specs.Run.{IsInside, PlacesLie, Plays, PlaysExport, PlaysRefusal, asked_lines, export_lines, fault_status, ending_status};
+ghost use Rattle.timeline_app.specs.Run.{IsInside, IsSound, Plays, PlaysExport, PlaysRefusal, asked_lines, export_lines, fault_status, ending_status};
 
 use crate::export::{Ending, export};
 use crate::job::Job;
@@ -36,8 +35,7 @@ fn ending_status(ending: Ending) -> u8
 /// Asks for the export and carries it out. It is carried out also where the line of the ask isn't put.
 fn play_asked<V: Vault, O: Sink>(alloc: Global, job: &Job, vault: &mut V, out: &mut O) -> u8
     requires idle { V.begun vault.old ≡ None }
-    requires plain { IsPlainFile job.now.bytes.items job.now.index }
-    requires places { PlacesLie job.now.bytes.items job.now.index }
+    requires sound { IsSound job.now.bytes.items job.now.index }
     requires inside { IsInside (view job.now.script) job.now.index }
     ensures plays { PlaysExport V.tells (V.faults vault.old, V.faults vault.new) (V.file vault.old) (V.file vault.new) O.tells (O.faults out.old, O.faults out.new) (O.contents out.old) (O.contents out.new) asked_lines (view job.now.script) job.now.bytes.items job.now.index result }
     ensures idle { V.begun vault.new ≡ None }
@@ -57,8 +55,7 @@ fn play_asked<V: Vault, O: Sink>(alloc: Global, job: &Job, vault: &mut V, out: &
 /// Inserts the clip's first frames, and exports them.
 fn play_export<V: Vault, O: Sink>(alloc: Global, job: &Job, vault: &mut V, out: &mut O) -> u8
     requires idle { V.begun vault.old ≡ None }
-    requires plain { IsPlainFile job.now.bytes.items job.now.index }
-    requires places { PlacesLie job.now.bytes.items job.now.index }
+    requires sound { IsSound job.now.bytes.items job.now.index }
     requires inside { IsInside (view job.now.script) job.now.index }
     ensures plays { PlaysExport V.tells (V.faults vault.old, V.faults vault.new) (V.file vault.old) (V.file vault.new) O.tells (O.faults out.old, O.faults out.new) (O.contents out.old) (O.contents out.new) (export_lines job.now.script.len) (view job.now.script) job.now.bytes.items job.now.index result }
     ensures idle { V.begun vault.new ≡ None }
@@ -82,8 +79,7 @@ fn play_refusal<O: Sink>(out: &mut O) -> u8
 /// Plays the script, and answers the status.
 pub fn play<V: Vault, O: Sink>(alloc: Global, job: &Job, vault: &mut V, out: &mut O) -> u8
     requires idle { V.begun vault.old ≡ None }
-    requires plain { IsPlainFile job.now.bytes.items job.now.index }
-    requires places { PlacesLie job.now.bytes.items job.now.index }
+    requires sound { IsSound job.now.bytes.items job.now.index }
     ensures plays { Plays V.tells (V.faults vault.old, V.faults vault.new) (V.file vault.old) (V.file vault.new) O.tells (O.faults out.old, O.faults out.new) (O.contents out.old) (O.contents out.new) (view job.now.script) job.now.bytes.items job.now.index result }
     ensures idle { V.begun vault.new ≡ None }
 {

@@ -48,7 +48,7 @@ fn say_stop<O: Sink>(alloc: Global, out: &mut O, stop: &Stop) -> Result<(), PutF
     match stop {
         Stop::Unfetched { name, fault } => say_made(out, store_line(alloc, name.as_str(), *fault)),
         Stop::Faulty { n } => say_made(out, fault_line(alloc, *n)),
-        Stop::NotPlain => say(out, clip_fault_line()),
+        Stop::FaultyClip { fault } => say_made(out, clip_fault_line(alloc, *fault)),
         Stop::NoMemory => say(out, memory_line()),
     }
 }
@@ -60,7 +60,7 @@ fn stop_status(stop: &Stop) -> u8
     match stop {
         Stop::Unfetched { name: _, fault: _ } => 4,
         Stop::Faulty { n: _ } => 3,
-        Stop::NotPlain => 3,
+        Stop::FaultyClip { fault: _ } => 3,
         Stop::NoMemory => 5,
     }
 }
@@ -163,7 +163,7 @@ pub fn run_alone<T: Store, V: Vault, S: Sink, O: Sink>(
     ensures misused { result.status ≡ 2 → (script_name (map string_bytes words.now) ≡ None) × Puts O.tells (Rose (O.faults out.old) (O.faults out.new)) (O.contents out.old) (O.contents out.new) usage_line }
     ensures usage { script_name (map string_bytes words.now) ≡ None → (result.status ≡ 2) ⊎ (result.status ≡ 5) }
 
-    // 3: exactly where the script was fetched and isn't of the form, or it is and the clip was fetched and isn't plain,
+    // 3: exactly where the script was fetched and isn't of the form, or it is and the clip was fetched and has a fault,
     // unless memory ran out.
     ensures faulty { result.status ≡ 3 → Stopped 3 (script_name (map string_bytes words.now)) T.tells (Rose (T.faults store.old) (T.faults store.new)) (T.file store.old)
         O.tells (Rose (O.faults out.old) (O.faults out.new)) (O.contents out.old) (O.contents out.new) }
