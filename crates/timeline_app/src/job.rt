@@ -9,7 +9,7 @@ ghost use Rattle.mkv_read.specs.Plain.{IsPlainFile};
 use crate::parse::read_script;
 use crate::script::{Script, ScriptRefusal};
 use crate::stop::Stop;
-use mkv_read::{ClipFault, ClipIndex, read_clip};
+use mkv_read::{ClipIndex, PlainFault, read_plain_clip};
 use std::alloc::Global;
 use tl_ports::{FetchFault, Store};
 
@@ -63,9 +63,9 @@ fn index_of(alloc: Global, bytes: &[u8]) -> Result<ClipIndex, Stop>
     ensures read { ReadsClip bytes.now result }
     ensures within { IfOk result (λ clip. PlacesLie bytes.now clip) }
 {
-    match read_clip(alloc, bytes) {
+    match read_plain_clip(alloc, bytes) {
         Ok(index) => Ok(index),
-        Err(ClipFault::Later) => Err(Stop::NotPlain),
+        Err(PlainFault::Later) => Err(Stop::NotPlain),
         // No other fault comes than want of memory.
         Err(_) => Err(Stop::NoMemory),
     }
