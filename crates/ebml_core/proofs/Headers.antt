@@ -143,6 +143,23 @@ element_at-advances place (octet ∷ rest) e h =
     let r = sized-advances place (suc (length rest)) a.head a.head.size e some (omega arith) a.is in
     record { more = r.0; within = r.1 }
 
+sized-starts : (place room : ℕ) (h : Header) (size : Size) (e : Element) → 1 ≤ h.octets → sized place room h size ≡ Ok e → (e.start ≡ place) × (place < e.content)
+sized-starts place room h Unknown e some is =
+    subst (λ (x : Element). (x.start ≡ place) × (place < x.content)) (element_is _ e is) (refl, omega arith)
+sized-starts place room h (Known size) e some is =
+    let a = guarded (ltb room (h.octets + size)) _ _ e is in
+    subst (λ (x : Element). (x.start ≡ place) × (place < x.content)) a.1 (refl, omega arith)
+
+pub element_at-starts : (place : ℕ) (text : List ℕ) (e : Element) → element_at place text ≡ Ok (Some e) → (e.start ≡ place) × (place < e.content)
+unfolding element_at
+element_at-starts place [] e h = absurd cc
+element_at-starts place (octet ∷ rest) e h =
+    let a = element_parts place (octet ∷ rest) e h in
+    let p = header_parts (octet ∷ rest) a.head a.read in
+    let octets : length p.ids + length p.sizes ≡ a.head.octets = ap (λ (g : Header). g.octets) p.is in
+    let some : 1 ≤ a.head.octets = omega (arith, octets, vint_at-some 4 (octet ∷ rest) p.ids p.id) in
+    sized-starts place (suc (length rest)) a.head a.head.size e some a.is
+
 abbrev element : ℕ → ℕ → ℕ → ℕ → Element
 element id start content end = record { id = id; start = start; content = content; end = end; unknown = false }
 

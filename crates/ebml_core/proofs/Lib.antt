@@ -3,3 +3,4 @@ pub mod Vints
 pub mod Pieces
 pub mod Headers
 pub mod Walks
+pub mod Endings

@@ -1,5 +1,6 @@
 -- Going from element to element (RFC 8794 section 6), up to the end or to the first fault.
-use Rattle.std.specs.Prelude.{◌≡◌, ℕ, zero, suc, ◌-◌, ◌<◌, ◌≤◌, List, [], ◌∷◌, length, drop, Option, Some, None, Result, Ok, Err}
+use Rattle.std.specs.Prelude.{◌≡◌, ℕ, zero, suc, ◌-◌, ◌<◌, ◌≤◌, ◌==◌, List, [], ◌∷◌, length, drop, Option, Some, None, Result, Ok, Err, if◌then◌else◌}
+use Rattle.std.specs.List.{list_any}
 use Rattle.ebml_core.specs.declared.element.Element.{Element}
 use Rattle.ebml_core.specs.declared.element.EbmlFault.{EbmlFault}
 use Rattle.ebml_core.specs.Spelling.{between}
@@ -62,3 +63,10 @@ abbrev pub given : Result (Option Element) EbmlFault → Walk → Walk
 given (Ok None) rest = ends
 given (Ok (Some e)) rest = gives e rest
 given (Err fault) rest = breaks fault
+
+-- Where an element of unknown size ends whose content is this walk (RFC 8794 section 6.2): before the first element
+-- of one of these ids, which may not stand in it, and where there is none, with its parent.
+unfoldable pub end_before : List ℕ → ℕ → Walk → ℕ
+end_before ids end ends = end
+end_before ids end (breaks fault) = end
+end_before ids end (gives e rest) = if list_any (λ id. id == e.id) ids then e.start else end_before ids end rest

@@ -66,3 +66,14 @@ fn walks(rt: HostRuntime) {
     assert!(rt; walker.next() == Ok(Some(empty)));
     assert!(rt; walker.next() == Ok(None));
 }
+
+#[test]
+fn ends_of_unknown_sizes(rt: HostRuntime) {
+    // A Void, a SimpleBlock of one byte, a Cluster of unknown size with a Void in it.
+    let bytes = [
+        0xEC, 0x80, 0xA3, 0x81, 7, 0x1F, 0x43, 0xB6, 0x75, 0xFF, 0xEC, 0x80,
+    ];
+    assert!(rt; Walker::over(&bytes, 0, 12).end_before(&[0x1254_C367, 0x1F43_B675]) == 5);
+    assert!(rt; Walker::over(&bytes, 0, 12).end_before(&[0x1254_C367]) == 12);
+    assert!(rt; Walker::over(&bytes, 0, 4).end_before(&[0x1F43_B675]) == 4);
+}

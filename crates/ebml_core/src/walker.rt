@@ -1,6 +1,6 @@
 ghost use Rattle.std.specs.Prelude.{◌≡◌, ℕ, ◌+◌, ◌-◌, ◌^◌, ◌*◌, ◌<◌, ◌≤◌, length, IfOk, IfSome};
 ghost use Rattle.ebml_core.specs.Reading.{header_at, sized, element_at, found};
-ghost use Rattle.ebml_core.specs.Walking.{Position, ahead, place_after, LiesAt, rest_of, given};
+ghost use Rattle.ebml_core.specs.Walking.{Position, ahead, place_after, LiesAt, rest_of, given, end_before};
 
 use crate::element::{EbmlFault, EbmlWhy, Element, Header};
 use crate::vint::{Size, VintFault, vint_id, vint_size};
@@ -117,5 +117,24 @@ impl<'a> Walker<'a> {
         let element = element(self.place, text)?;
         self.place = element.end;
         Ok(Some(element))
+    }
+
+    /// Where the first element of one of these ids starts, or the walk's end where none comes before that
+    /// and before the first faulty element: so an element of unknown size ends whose content is walked.
+    pub fn end_before(&mut self, ids: &[u32]) -> u64
+        ensures exact { result ≡ end_before ids.now self.old.end (rest_of self.old) }
+        ensures within { (self.old.place ≤ result) × (result ≤ self.old.end) }
+    {
+        loop {
+            match self.next() {
+                Ok(Some(element)) => {
+                    if ids.contains(&element.id) {
+                        return element.start;
+                    }
+                }
+                Ok(None) => return self.end,
+                Err(_) => return self.end,
+            }
+        }
     }
 }

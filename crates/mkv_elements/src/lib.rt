@@ -3,7 +3,11 @@
 //! An id is written with its length marker, as it stands in a file.
 #![tactic(auto)]
 
+mod table;
+
 ghost use Rattle.std.specs.Prelude.{◌↔◌, IsTrue, Contains};
+
+pub use table::{FILE, Kind, MAY_BE_UNKNOWN, Row, TABLE, kind_in, may_be_unknown};
 
 // The EBML header, and its children.
 pub const EBML: u32 = 0x1A45_DFA3;
@@ -110,3 +114,6 @@ pub fn is_top_level(id: u32) -> bool
 {
     TOP_LEVEL.contains(&id)
 }
+
+#[cfg(test)]
+mod tests;

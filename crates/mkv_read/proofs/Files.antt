@@ -10,8 +10,8 @@ use Rattle.ebml_core.proofs.Numbers.{AreBytes}
 use Rattle.mkv_elements.specs.declared.TheConstants.{EBML, SEGMENT, TRACKS, CLUSTER}
 use Rattle.mkv_read.specs.declared.clip.Place.{Place}
 use Rattle.mkv_read.specs.declared.clip.ClipIndex.{ClipIndex}
-use Rattle.mkv_read.specs.declared.fault.ClipFault.{ClipFault}
-use Rattle.mkv_read.specs.declared.fault.ClipFault.TheVariants as faults
+use Rattle.mkv_read.specs.declared.plain.fault.PlainFault.{PlainFault}
+use Rattle.mkv_read.specs.declared.plain.fault.PlainFault.TheVariants as faults
 use Rattle.mkv_read.specs.Plain.{named, IsSegment, IsPlainFile}
 use Rattle.mkv_read.specs.Reading.{Gives, ended, known_at, children_of, each_in, Taken, take_cluster, track_at, segment_at, masters_at, matroska_at, plain_clip}
 use Rattle.mkv_read.proofs.Elements.{bind_some, some, some_is, guard_some, none_after, AreKnown-back, Holds-known, Holds-from_walk, walk-from_Holds, Found-whole, seek_in-found, seek_in-split}
@@ -160,15 +160,15 @@ IsPlainFile-plain_clip bytes clip h =
 pub same_clips : (bytes : List ℕ) (a b : ClipIndex) → IsPlainFile bytes a → IsPlainFile bytes b → a ≡ b
 same_clips bytes a b ha hb = some_is a b (sym (IsPlainFile-plain_clip bytes a ha) ∙ IsPlainFile-plain_clip bytes b hb)
 
--- ---- what `read_clip` answers
+-- ---- what `read_plain_clip` answers
 
-pub read_plain : (bytes : List ℕ) (r : Result ClipIndex ClipFault) → AreBytes bytes → Gives (λ clip. clip) r (plain_clip bytes) → IfOk r (IsPlainFile bytes)
+pub read_plain : (bytes : List ℕ) (r : Result ClipIndex PlainFault) → AreBytes bytes → Gives (λ clip. clip) r (plain_clip bytes) → IfOk r (IsPlainFile bytes)
 read_plain bytes (Ok clip) fits read = plain_clip-IsPlainFile bytes clip fits read
 read_plain bytes (Err fault) fits read = tt
 
-pub read_later : (bytes : List ℕ) (r : Result ClipIndex ClipFault) → Gives (λ clip. clip) r (plain_clip bytes) → r ≡ Err faults.Later → (clip : ClipIndex) → IsPlainFile bytes clip → ⊥
+pub read_later : (bytes : List ℕ) (r : Result ClipIndex PlainFault) → Gives (λ clip. clip) r (plain_clip bytes) → r ≡ Err faults.Later → (clip : ClipIndex) → IsPlainFile bytes clip → ⊥
 read_later bytes r read is clip plain =
-    let none_read : Gives (λ (clip : ClipIndex). clip) (Err faults.Later) (plain_clip bytes) = subst (λ (x : Result ClipIndex ClipFault). Gives (λ (clip : ClipIndex). clip) x (plain_clip bytes)) is read in
+    let none_read : Gives (λ (clip : ClipIndex). clip) (Err faults.Later) (plain_clip bytes) = subst (λ (x : Result ClipIndex PlainFault). Gives (λ (clip : ClipIndex). clip) x (plain_clip bytes)) is read in
     some_none clip (sym (IsPlainFile-plain_clip bytes clip plain) ∙ none_read)
   where
     some_none : (clip : ClipIndex) → some clip ≡ None → ⊥

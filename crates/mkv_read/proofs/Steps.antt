@@ -4,15 +4,14 @@ use Rattle.std.proofs.lemmas.Bool.{ne_eqb}
 use Rattle.std.specs.List.{list_any}
 use Rattle.ebml_core.specs.declared.element.Element.{Element}
 use Rattle.ebml_core.specs.Walking.{Walk, ends, breaks, gives}
-use Rattle.mkv_read.specs.declared.fault.ClipFault.{ClipFault}
-use Rattle.mkv_read.specs.declared.fault.ClipFault.TheVariants as faults
+use Rattle.mkv_read.specs.declared.plain.fault.PlainFault.{PlainFault}
+use Rattle.mkv_read.specs.declared.plain.fault.PlainFault.TheVariants as faults
 use Rattle.mkv_read.specs.Reading.{◌>>=◌, Fails, Taken, known_at, seek_in, each_in}
 
 -- What fails before a step fails with it.
-pub Fails-bind : {A B : Type 0} (fault : ClipFault) (r : Option A) (f : A → Option B) → Fails fault r → Fails fault (r >>= f)
+pub Fails-bind : {A B : Type 0} (fault : PlainFault) (r : Option A) (f : A → Option B) → Fails fault r → Fails fault (r >>= f)
 Fails-bind faults.Later r f h = ap (λ o. o >>= f) h
 Fails-bind faults.NoMemory r f h = tt
-Fails-bind other r f h = absurd h
 
 -- ---- seeking
 
@@ -75,7 +74,7 @@ each_in-seek id refused step (gives e rest) taken =
 
 -- ---- a loop that takes each, where `total` is what it gives in the end
 
-pub fails_seeking : (fault : ClipFault) (id : ℕ) (refused : List ℕ) (step : Element → Taken → Option Taken) (w : Walk) (taken : Taken) (total : Option Taken) → Fails fault (seek_in id refused w) → each_in id refused step w taken ≡ total → Fails fault total
+pub fails_seeking : (fault : PlainFault) (id : ℕ) (refused : List ℕ) (step : Element → Taken → Option Taken) (w : Walk) (taken : Taken) (total : Option Taken) → Fails fault (seek_in id refused w) → each_in id refused step w taken ≡ total → Fails fault total
 fails_seeking fault id refused step w taken total fails same =
     subst (λ (r : Option Taken). Fails fault r) (sym (each_in-seek id refused step w taken) ∙ same) (Fails-bind fault (seek_in id refused w) (go_on id refused step taken) fails)
 
@@ -83,7 +82,7 @@ at_element : (id : ℕ) (refused : List ℕ) (step : Element → Taken → Optio
 at_element id refused step w taken e rest sought =
     each_in-seek id refused step w taken ∙ ap (λ (r : Option (Option (Element × Walk))). r >>= go_on id refused step taken) sought
 
-pub fails_taking : (fault : ClipFault) (id : ℕ) (refused : List ℕ) (step : Element → Taken → Option Taken) (w : Walk) (taken : Taken) (total : Option Taken) (e : Element) (rest : Walk) → seek_in id refused w ≡ found e rest → Fails fault (step e taken) → each_in id refused step w taken ≡ total → Fails fault total
+pub fails_taking : (fault : PlainFault) (id : ℕ) (refused : List ℕ) (step : Element → Taken → Option Taken) (w : Walk) (taken : Taken) (total : Option Taken) (e : Element) (rest : Walk) → seek_in id refused w ≡ found e rest → Fails fault (step e taken) → each_in id refused step w taken ≡ total → Fails fault total
 fails_taking fault id refused step w taken total e rest sought fails same =
     subst (λ (r : Option Taken). Fails fault r) (sym (at_element id refused step w taken e rest sought) ∙ same) (Fails-bind fault (step e taken) (each_in id refused step rest) fails)
 

@@ -11,7 +11,7 @@ use Rattle.mkv_elements.specs.declared.TheConstants.{DOC_TYPE, TRACK_ENTRY, TRAC
 use Rattle.mkv_read.specs.declared.clip.Place.{Place}
 use Rattle.mkv_read.specs.declared.clip.TheConstants.{MAX_SIDE, MAX_PRIVATE}
 use Rattle.mkv_read.specs.declared.track.TheConstants.{VIDEO_TYPE}
-use Rattle.mkv_read.specs.declared.track.Track.{Track}
+use Rattle.mkv_read.specs.declared.plain.track.Track.{Track}
 use Rattle.mkv_read.specs.Plain.{content_of, text_of, IsNumber, IsMatroska, IsSide, IsPrivate, IsFfv1, IsTrack}
 use Rattle.mkv_read.specs.Reading.{require, number_at, side_at, private_at, ffv1_number_at, track_at, matroska_at}
 use Rattle.mkv_read.proofs.Elements.{bind_some, some, some_is, guard_some, only_at-HasOne, HasOne-only_at, none_at-HasNone, HasNone-none_at}

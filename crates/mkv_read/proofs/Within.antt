@@ -7,7 +7,7 @@ use Rattle.ebml_core.specs.declared.element.Element.{Element}
 use Rattle.ebml_core.specs.Spelling.{Piece, Holds, spelling, elements_from}
 use Rattle.mkv_read.specs.declared.clip.Place.{Place}
 use Rattle.mkv_read.specs.declared.clip.ClipIndex.{ClipIndex}
-use Rattle.mkv_read.specs.declared.fault.ClipFault.{ClipFault}
+use Rattle.mkv_read.specs.declared.plain.fault.PlainFault.{PlainFault}
 use Rattle.mkv_elements.specs.declared.TheConstants.{TRACK_ENTRY, CODEC_PRIVATE, CLUSTER, SIMPLE_BLOCK}
 use Rattle.mkv_read.specs.Plain.{named, Children, HasOne, Block, IsBlock, AreBlocks, IsCluster, AreClusters, IsPlainFile, LiesBefore}
 use Rattle.mkv_read.specs.Reading.{LiesWithin}
@@ -104,7 +104,7 @@ clip-lies bytes clip h =
       packets = subst (AllBefore (length bytes)) (sym s.packets) (clusters-lie bytes s.number (named CLUSTER s.after) s.blocks (named-lie CLUSTER (length bytes) s.after children.1) s.clusters);
     }
 
-pub read_within : (bytes : List ℕ) (r : Result ClipIndex ClipFault) → IfOk r (IsPlainFile bytes) → IfOk r (λ clip. LiesBefore (length bytes) clip.private × AllByRecursion (LiesBefore (length bytes)) clip.packets)
+pub read_within : (bytes : List ℕ) (r : Result ClipIndex PlainFault) → IfOk r (IsPlainFile bytes) → IfOk r (λ clip. LiesBefore (length bytes) clip.private × AllByRecursion (LiesBefore (length bytes)) clip.packets)
 read_within bytes (Ok clip) plain =
     let lies = clip-lies bytes clip plain in
     (lies.private, lies.packets)

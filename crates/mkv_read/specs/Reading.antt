@@ -14,22 +14,21 @@ use Rattle.mkv_read.specs.declared.clip.Place.{Place}
 use Rattle.mkv_read.specs.declared.clip.ClipIndex.{ClipIndex}
 use Rattle.mkv_read.specs.declared.clip.TheConstants.{MAX_SIDE, MAX_PRIVATE, MAX_FRAMES}
 use Rattle.mkv_read.specs.declared.track.TheConstants.{VIDEO_TYPE}
-use Rattle.mkv_read.specs.declared.track.Track.{Track}
-use Rattle.mkv_read.specs.declared.fault.ClipFault.{ClipFault}
-use Rattle.mkv_read.specs.declared.fault.ClipFault.TheVariants as faults
+use Rattle.mkv_read.specs.declared.plain.track.Track.{Track}
+use Rattle.mkv_read.specs.declared.plain.fault.PlainFault.{PlainFault}
+use Rattle.mkv_read.specs.declared.plain.fault.PlainFault.TheVariants as faults
 use Rattle.mkv_read.specs.Plain.{content_of, text_of, Block, signed_plus_32768}
 
 infixl 10 ◌>>=◌
 abbrev pub ◌>>=◌ : {A B : Type 0} → Option A → (A → Option B) → Option B
 o >>= f = option_and_then f o
 
-abbrev pub Fails : {Y : Type 0} → ClipFault → Option Y → Type 0
+abbrev pub Fails : {Y : Type 0} → PlainFault → Option Y → Type 0
 Fails faults.Later read = read ≡ None
 Fails faults.NoMemory read = Unit {0}
-Fails other read = ⊥
 
 -- What a call answered, seen by view, is what reading gives: `Later` where it gives nothing, unless memory ran out.
-abbrev pub Gives : {X Y : Type 0} → (X → Y) → Result X ClipFault → Option Y → Type 0
+abbrev pub Gives : {X Y : Type 0} → (X → Y) → Result X PlainFault → Option Y → Type 0
 Gives view (Ok x) read = read ≡ Some (view x)
 Gives view (Err fault) read = Fails fault read
 

@@ -1,6 +1,6 @@
 -- What reading gives, as contracts see it in the code's values.
-use Rattle.mkv_read.specs.declared.block.Block.{Block}
-use Rattle.mkv_read.specs.declared.block.Packets.{Packets}
+use Rattle.mkv_read.specs.declared.plain.block.Block.{Block}
+use Rattle.mkv_read.specs.declared.plain.block.Packets.{Packets}
 use Rattle.mkv_read.specs.Plain as plain
 use Rattle.mkv_read.specs.Reading.{Taken}
 

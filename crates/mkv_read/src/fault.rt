@@ -34,8 +34,6 @@ pub enum ClipFault {
     NoFrames,
     /// Memory ran out.
     NoMemory,
-    /// The file isn't plain. It may be a clip that a later version reads.
-    Later,
 }
 
 impl From<AllocError> for ClipFault {

@@ -1,122 +1,133 @@
-ghost use Rattle.std.specs.Prelude.{◌≡◌, ℕ, ◌+◌, ◌≤◌, ◌⊎◌, [], ◌∷◌, length, IfOk, IfErr, Err};
+ghost use Rattle.std.specs.Prelude.{◌≡◌, ◌≤◌, length, IfOk, IfSome};
 ghost use Rattle.std.specs.List.{AllByRecursion};
-ghost use Rattle.ebml_core.specs.Walking.{rest_of};
-ghost use Rattle.mkv_read.specs.declared.clip.ClipIndex.{ClipIndex};
-ghost use Rattle.mkv_read.specs.Plain.{IsPlainFile, LiesBefore};
-ghost use Rattle.mkv_read.specs.Reading.{Gives, LiesWithin, each_in, take_cluster, segment_at, masters_at, matroska_at, plain_clip};
-ghost use Rattle.mkv_read.specs.Seen.{taken_of};
+ghost use Rattle.mkv_elements.specs.declared.TheConstants.{EBML};
+ghost use Rattle.mkv_read.specs.Plain.{LiesBefore};
+ghost use Rattle.mkv_read.specs.Elements.{next_at};
+ghost use Rattle.mkv_read.specs.Taking.{Gives, taken_of, finished, number_in, read};
+ghost use Rattle.mkv_read.specs.Clip.{is_element, is_matroska, end_or, clip_of};
 
-use crate::block::{Packets, take_cluster};
-use crate::children::{is_text, known, only, seek};
-use crate::clip::{ClipIndex, Places};
-use crate::fault::ClipFault;
-use crate::track::track_at;
-use ebml_core::{Element, Walker};
-use mkv_elements::{CLUSTER, DOC_TYPE, EBML, SEGMENT, TRACKS};
+use crate::block::Blocks;
+use crate::clip::{ClipIndex, MAX_FRAMES, Places};
+use crate::element::{child, element_at, first, is_text};
+use crate::fault::{ClipFault, Which};
+use crate::track::{Track, track_of};
+use crate::visit::{Inside, LEVELS, visit};
+use ebml_core::Element;
+use mkv_elements::{DOC_TYPE, EBML, FILE, SEGMENT};
 use std::alloc::Global;
 
-/// The clip of a plain Matroska file.
-///
-/// It goes once over the headers of the Segment's elements and touches no packet. It keeps 16 bytes for
-/// each packet. Every file that isn't plain is `Later`.
-pub fn read_clip(alloc: Global, bytes: &[u8]) -> Result<ClipIndex, ClipFault>
-    ensures plain { IfOk result (IsPlainFile bytes.now) }
-    ensures later { result ≡ Err ClipFault.Later → (clip : ClipIndex) → IsPlainFile bytes.now clip → ⊥ }
-    ensures none_other { IfErr result
-        (λ fault. (fault ≡ ClipFault.Later) ⊎ (fault ≡ ClipFault.NoMemory)) }
-    ensures within { IfOk result (λ clip. LiesBefore (length bytes.now) clip.private
-        × AllByRecursion (LiesBefore (length bytes.now)) clip.packets) }
+/// Whether the file's first element is an EBML header.
+fn begins_with_header(bytes: &[u8]) -> bool
+    ensures { result ≡ is_element EBML (next_at bytes.now 0 (length bytes.now)) }
 {
-    plain_clip(alloc, bytes)
-}
-
-#[tactic(auto, unfolding(crate::specs::Reading::plain_clip))]
-fn plain_clip(alloc: Global, bytes: &[u8]) -> Result<ClipIndex, ClipFault>
-    ensures { Gives (λ clip. clip) result (plain_clip bytes.now) }
-{
-    let (header, segment) = masters(bytes)?;
-    matroska(bytes, header)?;
-    segment_at(alloc, bytes, segment)
-}
-
-/// The EBML header and the Segment that a file is, and nothing else.
-#[tactic(auto, unfolding(crate::specs::Reading::masters_at))]
-fn masters(bytes: &[u8]) -> Result<(Element, Element), ClipFault>
-    ensures exact { Gives (λ masters. masters) result (masters_at bytes.now) }
-    ensures lie { IfOk result (λ masters. LiesWithin (length bytes.now) masters.0
-        × LiesWithin (length bytes.now) masters.1) }
-{
-    let mut file = Walker::over(bytes, 0, bytes.len() as u64);
-    let Some(header) = known(&mut file)? else {
-        return Err(ClipFault::Later);
-    };
-    let Some(segment) = known(&mut file)? else {
-        return Err(ClipFault::Later);
-    };
-    if known(&mut file)?.is_some() {
-        return Err(ClipFault::Later);
+    match element_at(bytes, 0, bytes.len() as u64) {
+        Ok(Some(element)) => element.id == EBML,
+        Ok(None) => false,
+        Err(_) => false,
     }
-    if header.id != EBML || segment.id != SEGMENT {
-        return Err(ClipFault::Later);
-    }
-    Ok((header, segment))
 }
 
-/// That an EBML header is that of a Matroska file.
-#[tactic(auto, unfolding(crate::specs::Reading::matroska_at))]
-fn matroska(bytes: &[u8], header: Element) -> Result<(), ClipFault>
-    requires { LiesWithin (length bytes.now) header }
-    ensures { Gives (λ done. done) result (matroska_at bytes.now header) }
+/// Whether the EBML header says that the file is Matroska.
+#[tactic(auto, unfolding(crate::specs::Clip::is_matroska))]
+fn is_matroska(bytes: &[u8]) -> bool
+    ensures { result ≡ is_matroska bytes.now }
 {
-    let doc_type = only(bytes, header, DOC_TYPE)?;
-    if !is_text(bytes, doc_type, b"matroska") {
-        return Err(ClipFault::Later);
+    match first(bytes, 0, bytes.len() as u64, EBML) {
+        None => false,
+        Some(header) => is_text(bytes, child(bytes, header, DOC_TYPE), b"matroska"),
     }
-    Ok(())
 }
 
-/// The clip of a Segment with one Tracks, before all its Clusters.
-#[tactic(auto, unfolding(crate::specs::Reading::segment_at))]
-fn segment_at(alloc: Global, bytes: &[u8], segment: Element) -> Result<ClipIndex, ClipFault>
-    requires { LiesWithin (length bytes.now) segment }
-    ensures { Gives (λ clip. clip) result (segment_at bytes.now segment) }
+/// The clip of a track with the blocks that were taken.
+fn finish(track: Track, blocks: Blocks) -> Result<ClipIndex, ClipFault>
+    ensures exact { Gives (λ clip. clip) result (finished track (taken_of blocks)) }
+    ensures places { IfOk result (λ clip. (clip.private ≡ track.private) × (clip.packets ≡ blocks.packets.items)) }
 {
-    let mut children = Walker::over(bytes, segment.content, segment.end);
-    let Some(tracks) = seek(&mut children, TRACKS, &[CLUSTER])? else {
-        return Err(ClipFault::Later);
-    };
-    let track = track_at(bytes, tracks)?;
-    let packets = packets(alloc, bytes, track.number, &mut children)?;
-    if packets.places.is_empty() {
-        return Err(ClipFault::Later);
+    if blocks.count > MAX_FRAMES {
+        return Err(ClipFault::Limit {
+            which: Which::Frames,
+        });
+    }
+    if let Some(fault) = blocks.fault {
+        return Err(fault);
+    }
+    if blocks.packets.is_empty() {
+        return Err(ClipFault::NoFrames);
     }
     Ok(ClipIndex {
         width: track.width,
         height: track.height,
         private: track.private,
-        packets: Places::from_vec(packets.places),
+        packets: Places::from_vec(blocks.packets),
     })
 }
 
-/// The packets of the Clusters behind a Segment's Tracks.
-fn packets(
-    alloc: Global,
-    bytes: &[u8],
-    track: u64,
-    children: &mut Walker<'_>,
-) -> Result<Packets, ClipFault>
-    requires bytes { children.old.bytes ≡ bytes.now }
-    requires end { children.old.end ≤ length bytes.now }
-    ensures { Gives taken_of result
-        (each_in CLUSTER (TRACKS ∷ []) (take_cluster bytes.now track)
-        (rest_of children.old) (record { packets = []; last = 0 })) }
+/// Where what is read of the file ends: with its first Segment.
+fn end_or(end: u64, segment: Option<Element>) -> u64
+    ensures { result ≡ end_or end segment }
 {
-    let mut packets = Packets {
-        places: Vec::new(alloc),
-        last: 0,
-    };
-    while let Some(cluster) = seek(children, CLUSTER, &[TRACKS])? {
-        take_cluster(bytes, track, cluster, &mut packets)?;
+    match segment {
+        None => end,
+        Some(segment) => segment.end,
     }
-    Ok(packets)
+}
+
+/// The number of the blocks that are taken.
+fn number_in(track: Result<Track, ClipFault>) -> Option<u64>
+    ensures { result ≡ number_in track }
+{
+    match track {
+        Ok(track) => Some(track.number),
+        Err(_) => None,
+    }
+}
+
+/// Reads the file once over, and then judges what was found.
+#[tactic(auto, unfolding(crate::specs::Taking::read, crate::specs::Clip::segment_of, crate::specs::Clip::file_of))]
+fn read(alloc: Global, bytes: &[u8]) -> Result<ClipIndex, ClipFault>
+    ensures exact { Gives (λ clip. clip) result (read bytes.now) }
+    ensures within { IfOk result (λ clip. LiesBefore (length bytes.now) clip.private
+        × AllByRecursion (LiesBefore (length bytes.now)) clip.packets) }
+{
+    if !begins_with_header(bytes) {
+        return Err(ClipFault::Ebml { at: 0 });
+    }
+    let len = bytes.len() as u64;
+    let segment = first(bytes, 0, len, SEGMENT);
+    let track = track_of(bytes, segment);
+    let mut blocks = Blocks::none(alloc);
+    let inside = Inside {
+        levels: LEVELS,
+        parent: FILE,
+        time: 0,
+    };
+    visit(
+        bytes,
+        number_in(track),
+        inside,
+        0,
+        end_or(len, segment),
+        &mut blocks,
+    )?;
+    if !is_matroska(bytes) {
+        return Err(ClipFault::DocType);
+    }
+    let track = track?;
+    let clip = finish(track, blocks)?;
+    Ok(clip)
+}
+
+/// The clip of a Matroska file: the size of its pictures, and where its configuration record and its
+/// packets lie, in file order.
+///
+/// It goes once over the headers of the elements that are read and touches no packet. What stands before
+/// the first Tracks of a Segment is gone over once more, as is what stands before a Cluster's Timestamp,
+/// and the TrackEntries. It keeps 16 bytes for each packet. Of several faults the first in the order of
+/// `ClipFault` is answered, of `Laced` and `TimeOrder` the one of the first such block.
+pub fn read_clip(alloc: Global, bytes: &[u8]) -> Result<ClipIndex, ClipFault>
+    ensures exact { Gives (λ clip. clip) result (clip_of bytes.now) }
+    ensures within { IfOk result (λ clip. LiesBefore (length bytes.now) clip.private
+        × AllByRecursion (LiesBefore (length bytes.now)) clip.packets) }
+{
+    read(alloc, bytes)
 }

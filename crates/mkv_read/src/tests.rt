@@ -1,84 +1,238 @@
 use super::*;
-use std::alloc::Global;
 use std::test::*;
 
-/// Three packets `FF FF 00 00 02` of a clip of 2x2, in two Clusters.
+/// Three packets of track 3, which is FFV1, beside sound and another picture.
 #[rattlefmt::skip]
-const PLAIN: [u8; 113] = [
+const MIXED: [u8; 202] = [
     // EBML: DocType
-    0x1A, 0x45, 0xDF, 0xA3, 0x8B,
-    0x42, 0x82, 0x88, b'm', b'a', b't', b'r', b'o', b's', b'k', b'a',
-    // Segment, its size spelled in two octets
-    0x18, 0x53, 0x80, 0x67, 0x40, 0x5B,
-    // Tracks, TrackEntry: TrackNumber, TrackType, CodecID, CodecPrivate, Video
-    0x16, 0x54, 0xAE, 0x6B, 0x9D, 0xAE, 0x9B,
-    0xD7, 0x81, 0x01,
-    0x83, 0x81, 0x01,
-    0x86, 0x86, b'V', b'_', b'F', b'F', b'V', b'1',
-    0x63, 0xA2, 0x82, 0xAA, 0xBB,
+    0x1A, 0x45, 0xDF, 0xA3, 0x8B, 0x42, 0x82, 0x88, 0x6D, 0x61, 0x74, 0x72, 0x6F, 0x73, 0x6B, 0x61,
+    // Segment, of unknown size
+    0x18, 0x53, 0x80, 0x67, 0xFF,
+    // Void
+    0xEC, 0x81, 0x00,
+    // Tracks, its size spelled in two octets
+    0x16, 0x54, 0xAE, 0x6B, 0x40, 0x74,
+    // TrackEntry: 1, sound
+    0xAE, 0x8E, 0xD7, 0x81, 0x01, 0x83, 0x81, 0x02, 0x86, 0x86, 0x41, 0x5F, 0x46, 0x4C, 0x41, 0x43,
+    // TrackEntry: 2, video of another codec
+    0xAE, 0x8D, 0xD7, 0x81, 0x02, 0x83, 0x81, 0x01, 0x86, 0x85, 0x56, 0x5F, 0x56, 0x50, 0x38,
+    // TrackEntry: TrackNumber 3, TrackType, CodecID, an empty Name
+    0xAE, 0xD3, 0xD7, 0x81, 0x03, 0x83, 0x81, 0x01, 0x86, 0x8F, 0x56, 0x5F, 0x4D, 0x53, 0x2F, 0x56,
+    0x46, 0x57, 0x2F, 0x46, 0x4F, 0x55, 0x52, 0x43, 0x43, 0x53, 0x6E, 0x80,
+    // CodecPrivate: biSize 43, biCompression, and a record of up to 6 bytes
+    0x63, 0xA2, 0xAE,
+    0x2B, 0x00, 0x00, 0x00, 0x00, 0x00, 0x00, 0x00, 0x00, 0x00, 0x00, 0x00, 0x00, 0x00, 0x00, 0x00,
+    0x46, 0x46, 0x56, 0x31, 0x00, 0x00, 0x00, 0x00, 0x00, 0x00, 0x00, 0x00, 0x00, 0x00, 0x00, 0x00,
+    0x00, 0x00, 0x00, 0x00, 0x00, 0x00, 0x00, 0x00,
+    0xAA, 0xBB, 0xCC, 0xDD, 0xEE, 0xFF,
+    // Video: 2x2
     0xE0, 0x86, 0xB0, 0x81, 0x02, 0xBA, 0x81, 0x02,
-    // Tags, with nothing in it
-    0x12, 0x54, 0xC3, 0x67, 0x80,
-    // Cluster: Timestamp 0, Void, SimpleBlocks at the times 0 and 40
-    0x1F, 0x43, 0xB6, 0x75, 0x9B,
-    0xE7, 0x81, 0x00,
+    // Cluster, of unknown size
+    0x1F, 0x43, 0xB6, 0x75, 0xFF,
+    // SimpleBlock of track 3, before the Timestamp
+    0xA3, 0x85, 0x83, 0x00, 0x00, 0x80, 0x11,
+    // Timestamp 100
+    0xE7, 0x81, 0x64,
+    // SimpleBlock of track 1, laced
+    0xA3, 0x85, 0x81, 0x00, 0x00, 0x86, 0x22,
+    // BlockGroup: BlockDuration, Block of track 3 at 101
+    0xA0, 0x8B, 0x9B, 0x81, 0x28,
+    0xA1, 0x86, 0x83, 0x00, 0x01, 0x00, 0x33, 0x34,
+    // Void
     0xEC, 0x80,
-    0xA3, 0x89, 0x81, 0x00, 0x00, 0x80, 0xFF, 0xFF, 0x00, 0x00, 0x02,
-    0xA3, 0x89, 0x81, 0x00, 0x28, 0x80, 0xFF, 0xFF, 0x00, 0x00, 0x02,
-    // Cluster: Timestamp 80, a SimpleBlock at its time
-    0x1F, 0x43, 0xB6, 0x75, 0x8F,
-    0xE7, 0x82, 0x00, 0x50,
-    0xA3, 0x89, 0x81, 0x00, 0x00, 0x80, 0xFF, 0xFF, 0x00, 0x00, 0x02,
+    // Cluster, without a Timestamp: SimpleBlock at 101
+    0x1F, 0x43, 0xB6, 0x75, 0x89,
+    0xA3, 0x87, 0x83, 0x00, 0x65, 0x80, 0x44, 0x45, 0x46,
+    // Cues, with nothing in it
+    0x1C, 0x53, 0xBB, 0x6B, 0x80,
 ];
 
-/// The places of single bytes, with what stands there in a file that isn't plain.
-const EDITS: [(usize, u8); 9] = [
-    (8, b'M'), // another DocType
-    (31, 0x02), // the track has another number than the blocks
-    (34, 0x11), // the track isn't video
-    (42, b'2'), // another codec
-    (65, 0xFF), // a Cluster of unknown size
-    (69, 0xA0), // a BlockGroup
-    (84, 0x82), // a block of another track
-    (87, 0x82), // a laced block
-    (101, 0x27), // a time below that of the block before
+/// An exported file: a record of 7 bytes, and three packets of 5 bytes.
+#[rattlefmt::skip]
+const EXPORTED: [u8; 268] = [
+    // EBML
+    0x1A, 0x45, 0xDF, 0xA3, 0xA3, 0x42, 0x86, 0x81, 0x01, 0x42, 0xF7, 0x81, 0x01, 0x42, 0xF2, 0x81,
+    0x04, 0x42, 0xF3, 0x81, 0x08, 0x42, 0x82, 0x88, 0x6D, 0x61, 0x74, 0x72, 0x6F, 0x73, 0x6B, 0x61,
+    0x42, 0x87, 0x81, 0x04, 0x42, 0x85, 0x81, 0x02,
+    // Segment
+    0x18, 0x53, 0x80, 0x67, 0x01, 0xFF, 0xFF, 0xFF, 0xFF, 0xFF, 0xFF, 0xFF,
+    // Info
+    0x15, 0x49, 0xA9, 0x66, 0xA7, 0x2A, 0xD7, 0xB1, 0x83, 0x0F, 0x42, 0x40, 0x4D, 0x80, 0x8D, 0x66,
+    0x66, 0x76, 0x31, 0x2D, 0x74, 0x69, 0x6D, 0x65, 0x6C, 0x69, 0x6E, 0x65, 0x57, 0x41, 0x8D, 0x66,
+    0x66, 0x76, 0x31, 0x2D, 0x74, 0x69, 0x6D, 0x65, 0x6C, 0x69, 0x6E, 0x65,
+    // Tracks and its TrackEntry
+    0x16, 0x54, 0xAE, 0x6B, 0x10, 0x00, 0x00, 0x31, 0xAE, 0x10, 0x00, 0x00, 0x2C, 0xD7, 0x81, 0x01,
+    0x73, 0xC5, 0x81, 0x01,
+    0x83, 0x81, 0x01, 0x9C, 0x81, 0x00, 0x86, 0x86, 0x56, 0x5F, 0x46, 0x46, 0x56, 0x31,
+    0x63, 0xA2, 0x10, 0x00, 0x00, 0x07,
+    0xA1, 0xA2, 0xA3, 0xA4, 0xA5, 0xA6, 0xA7,
+    0xE0, 0x88, 0xB0, 0x82, 0x00, 0x02, 0xBA, 0x82, 0x00, 0x02,
+    // Cluster: Timestamp, and three SimpleBlocks
+    0x1F, 0x43, 0xB6, 0x75, 0x01, 0x00, 0x00, 0x00, 0x00, 0x00, 0x00, 0x40, 0xE7, 0x88, 0x00, 0x00,
+    0x00, 0x00, 0x00, 0x00, 0x00, 0x00,
+    0xA3, 0x01, 0x00, 0x00, 0x00, 0x00, 0x00, 0x00, 0x09, 0x81, 0x00, 0x00, 0x80,
+    0xFF, 0xFF, 0x00, 0x00, 0x02,
+    0xA3, 0x01, 0x00, 0x00, 0x00, 0x00, 0x00, 0x00, 0x09, 0x81, 0x00, 0x28, 0x80,
+    0xFF, 0xFF, 0x00, 0x00, 0x02,
+    0xA3, 0x01, 0x00, 0x00, 0x00, 0x00, 0x00, 0x00, 0x09, 0x81, 0x00, 0x50, 0x80,
+    0xFF, 0xFF, 0x00, 0x00, 0x02,
+    // Cues
+    0x1C, 0x53, 0xBB, 0x6B, 0x01, 0x00, 0x00, 0x00, 0x00, 0x00, 0x00, 0x1B, 0xBB, 0x99, 0xB3, 0x88,
+    0x00, 0x00, 0x00, 0x00, 0x00, 0x00, 0x00, 0x00, 0xB7, 0x8D, 0xF7, 0x81, 0x01, 0xF1, 0x88, 0x00,
+    0x00, 0x00, 0x00, 0x00, 0x00, 0x00, 0x65,
 ];
 
-fn is_later(alloc: Global, bytes: &[u8]) -> bool {
-    read_clip(alloc, bytes).err() == Some(ClipFault::Later)
+/// What is answered of the first bytes of the exported file, from one count of them to another; none where
+/// there is a clip.
+const PREFIXES: [(usize, usize, Option<ClipFault>); 12] = [
+    (0, 39, Some(ClipFault::Ebml { at: 0 })),
+    (40, 40, Some(ClipFault::NoTrack)),
+    (41, 51, Some(ClipFault::Ebml { at: 40 })),
+    (52, 52, Some(ClipFault::NoTrack)),
+    (53, 95, Some(ClipFault::Ebml { at: 52 })),
+    (96, 96, Some(ClipFault::NoTrack)),
+    (97, 152, Some(ClipFault::Ebml { at: 96 })),
+    (153, 153, Some(ClipFault::NoFrames)),
+    (154, 228, Some(ClipFault::Ebml { at: 153 })),
+    (229, 229, None),
+    (230, 267, Some(ClipFault::Ebml { at: 229 })),
+    (268, 268, None),
+];
+
+/// What is answered where two bytes of the mixed file are others.
+const CHANGES: [([(usize, u8); 2], Option<ClipFault>); 20] = [
+    // No change, another DocType.
+    ([(0, 0x1A), (0, 0x1A)], None),
+    ([(8, b'm'), (8, b'M')], Some(ClipFault::DocType)),
+    // No track of video, none of FFV1, no CodecPrivate.
+    ([(53, 2), (68, 2)], Some(ClipFault::NoTrack)),
+    ([(68, 1), (68, 2)], Some(ClipFault::Codec)),
+    ([(108, b'F'), (108, b'X')], Some(ClipFault::Codec)),
+    ([(89, 0x63), (90, 0xA3)], Some(ClipFault::Codec)),
+    // ContentEncodings in the place of Name.
+    ([(86, 0x6D), (87, 0x80)], Some(ClipFault::Encoded)),
+    // A width of 0, no height, no Video.
+    (
+        [(141, 0x81), (142, 0)],
+        Some(ClipFault::Limit {
+            which: Which::Width,
+        }),
+    ),
+    (
+        [(143, 0xBA), (143, 0xBB)],
+        Some(ClipFault::Limit {
+            which: Which::Height,
+        }),
+    ),
+    (
+        [(138, 0xE0), (138, 0xE1)],
+        Some(ClipFault::Limit {
+            which: Which::Width,
+        }),
+    ),
+    // The blocks are of another track.
+    ([(65, 3), (65, 4)], Some(ClipFault::NoFrames)),
+    // The last block is laced, earlier than the one before, too short, of an unknown track number.
+    (
+        [(193, 0x80), (193, 0x82)],
+        Some(ClipFault::Laced { at: 188 }),
+    ),
+    (
+        [(192, 0x65), (192, 0x64)],
+        Some(ClipFault::TimeOrder { at: 188 }),
+    ),
+    (
+        [(189, 0x87), (189, 0x83)],
+        Some(ClipFault::Ebml { at: 188 }),
+    ),
+    (
+        [(190, 0x83), (190, 0xFF)],
+        Some(ClipFault::Ebml { at: 188 }),
+    ),
+    // A BlockGroup of unknown size, Cues of unknown size, a Timestamp of nine bytes.
+    (
+        [(169, 0x8B), (169, 0xFF)],
+        Some(ClipFault::Ebml { at: 168 }),
+    ),
+    (
+        [(201, 0x80), (201, 0xFF)],
+        Some(ClipFault::Ebml { at: 197 }),
+    ),
+    (
+        [(159, 0x81), (159, 0x89)],
+        Some(ClipFault::Ebml { at: 158 }),
+    ),
+    // The second Cluster of unknown size too; a fault comes before another's.
+    ([(187, 0x89), (187, 0xFF)], None),
+    ([(8, b'M'), (201, 0xFF)], Some(ClipFault::Ebml { at: 197 })),
+];
+
+/// The first byte of biSize, and how many bytes of the 46 the record then has.
+const RECORDS: [(u8, u64); 6] = [(46, 6), (40, 6), (43, 3), (39, 6), (41, 1), (255, 6)];
+
+#[test]
+fn prefixes_of_an_exported_file(rt: HostRuntime) {
+    for (first, last, want) in PREFIXES {
+        assert!(rt; last <= EXPORTED.len());
+        for len in first..last + 1 {
+            let fault = read_clip(rt.alloc(), &EXPORTED[..len]).err();
+            assert!(rt; fault == want, "{len} bytes");
+        }
+    }
 }
 
 #[test]
-fn plain_files(rt: HostRuntime) -> Result<(), Fail> {
-    let clip = read_clip(rt.alloc(), &PLAIN)?;
-    assert_eq!(rt; clip.width, 2);
-    assert_eq!(rt; clip.height, 2);
-    assert!(rt; clip.private == Place { from: 46, len: 2 });
-    let packets = [
-        Place { from: 77, len: 5 },
-        Place { from: 88, len: 5 },
-        Place { from: 108, len: 5 },
-    ];
-    assert!(rt; clip.packets.as_slice() == packets.as_slice());
+fn an_ebml_header_alone(rt: HostRuntime) {
+    let mut other = EXPORTED;
+    other[31] = b'b';
+    assert!(rt; read_clip(rt.alloc(), &other[..40]).err() == Some(ClipFault::DocType));
+    let mut no_private = EXPORTED;
+    no_private[131] = 0xA3;
+    assert!(rt; read_clip(rt.alloc(), &no_private).err() == Some(ClipFault::NoPrivate));
+}
+
+#[test]
+fn changes_of_a_mixed_file(rt: HostRuntime) {
+    for (edits, want) in CHANGES {
+        let mut file = MIXED;
+        for (at, byte) in edits {
+            assert!(rt; at < file.len());
+            file[at] = byte;
+        }
+        let fault = read_clip(rt.alloc(), &file).err();
+        assert!(rt; fault == want, "{edits:?}");
+    }
+}
+
+#[test]
+fn records_behind_a_header(rt: HostRuntime) -> Result<(), Fail> {
+    for (size, len) in RECORDS {
+        let mut file = MIXED;
+        file[92] = size;
+        let clip = read_clip(rt.alloc(), &file)?;
+        assert!(rt; clip.private == Place { from: 132, len }, "biSize {size}");
+    }
     Ok(())
 }
 
 #[test]
-fn files_that_are_not_plain(rt: HostRuntime) {
-    for (at, byte) in EDITS {
-        let mut file = PLAIN;
-        assert!(rt; at < file.len());
-        file[at] = byte;
-        assert!(rt; is_later(rt.alloc(), &file), "byte {at}");
-    }
-    let mut two_tracks = PLAIN;
-    two_tracks[56] = 0x16;
-    two_tracks[58] = 0xAE;
-    two_tracks[59] = 0x6B;
-    assert!(rt; is_later(rt.alloc(), &two_tracks), "two Tracks");
-    let mut longer = [0; 114];
-    longer[..113].copy_from_slice(&PLAIN);
-    assert!(rt; is_later(rt.alloc(), &longer), "a byte behind the Segment");
-    assert!(rt; is_later(rt.alloc(), &PLAIN[..112]), "cut by a byte");
-    assert!(rt; is_later(rt.alloc(), &[]), "no bytes");
+fn packets_of_a_track(rt: HostRuntime) -> Result<(), Fail> {
+    let clip = read_clip(rt.alloc(), &MIXED)?;
+    assert_eq!(rt; clip.width, 2);
+    assert_eq!(rt; clip.height, 2);
+    let packets = [
+        Place { from: 157, len: 1 },
+        Place { from: 179, len: 2 },
+        Place { from: 194, len: 3 },
+    ];
+    assert!(rt; clip.packets.as_slice() == packets.as_slice());
+    let clip = read_clip(rt.alloc(), &EXPORTED)?;
+    assert!(rt; clip.private == Place { from: 136, len: 7 });
+    let packets = [
+        Place { from: 188, len: 5 },
+        Place { from: 206, len: 5 },
+        Place { from: 224, len: 5 },
+    ];
+    assert!(rt; clip.packets.as_slice() == packets.as_slice());
+    Ok(())
 }
