@@ -57,7 +57,7 @@ works_then tells file name script bytes clip works told faulty =
 stop_then : {X : Type 0} (tells : Type 0) (file : List ℕ → Option (List ℕ)) (name : List ℕ) (rose : Type 0) (stop : Stop) → StopHasCause tells file name rose stop → stop_status stop ≡ 4
     → tells → (rose → ⊥) → IsFaulty file name → X
 stop_then tells file name rose (stops.Unfetched of fault) (inl h) four told calm (inl (text, n, at, size, bad)) = unfetched tells (file name) 16777216 rose fault text h.1 told calm at size
-stop_then tells file name rose (stops.Unfetched of fault) (inl h) four told calm (inr (text, bytes, other, fault, at, size, form, at_clip, clip_size, bad)) = unfetched tells (file name) 16777216 rose fault text h.1 told calm at size
+stop_then tells file name rose (stops.Unfetched of fault) (inl h) four told calm (inr (text, bytes, other, clip_fault, at, size, form, at_clip, clip_size, bad)) = unfetched tells (file name) 16777216 rose fault text h.1 told calm at size
 stop_then tells file name rose (stops.Unfetched of fault) (inr (script, read, h)) four told calm faulty =
     script_then tells file name script read told faulty (λ bytes at size other bad. unfetched tells (file script.file) 2147483648 rose fault bytes h.1 told calm at size)
 stop_then tells file name rose (stops.Faulty n) cause four told calm faulty = absurd (omega (arith, four))

@@ -1,5 +1,5 @@
 -- Why a session doesn't start, joined over its two fetches.
-use Rattle.std.proofs.Common.{◌≡◌, ℕ, ◌≤◌, List, Option, Err, subst, inl, inr, arith}
+use Rattle.std.proofs.Common.{◌≡◌, ◌≢◌, refl, ℕ, ◌≤◌, List, Option, Result, Err, subst, inl, inr, arith}
 use Rattle.tl_ports.specs.Outside.{Rose}
 use Rattle.mkv_read.specs.declared.clip.ClipIndex.{ClipIndex}
 use Rattle.timeline_app.specs.declared.stop.Stop.{Stop}

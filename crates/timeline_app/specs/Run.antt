@@ -6,7 +6,6 @@ use Rattle.tl_ports.specs.declared.fault.FetchFault.TheVariants as fetching
 use Rattle.tl_ports.specs.Outside.{Rose, KeepsOthers, IsToldOr, IsLonger}
 use Rattle.mkv_read.specs.declared.clip.ClipIndex.{ClipIndex}
 use Rattle.mkv_read.specs.declared.clip.Place.{Place}
-use Rattle.mkv_read.specs.declared.fault.ClipFault.{ClipFault}
 use Rattle.mkv_read.specs.Clip.{clip_of, IsWithinLimits}
 use Rattle.mkv_read.specs.Plain.{LiesBefore}
 use Rattle.tl_ports.specs.declared.fault.PutFault.{PutFault}

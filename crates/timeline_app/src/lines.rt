@@ -3,8 +3,8 @@
 ghost use Rattle.std.specs.Prelude.{◌≡◌, IfOk, string_bytes, ◌++◌};
 ghost use Rattle.timeline_app.specs.Lines.{ok_line, done_line, fault_line, store_line, usage_line, asked_line, sink_line, refused_lines, clip_fault_line, clip_kind_of, kind_of, memory_line, export_memory_line};
 
-use std::alloc::{AllocError, Global};
 use mkv_read::ClipFault;
+use std::alloc::{AllocError, Global};
 use tl_ports::FetchFault;
 
 pub const USAGE: &str = "usage: timeline SCRIPT [--workers N] [--cache N] [--journal N]\n";

@@ -3,9 +3,9 @@
 ghost use Rattle.std.specs.Prelude.{◌≡◌};
 ghost use Rattle.timeline_app.specs.declared.stop.Stop.TheVariants as stops;
 
+use mkv_read::ClipFault;
 use std::alloc::{AllocError, AllocFailed};
 use tl_ports::FetchFault;
-use mkv_read::ClipFault;
 
 /// Why a session doesn't start.
 #[derive(Debug, Drop)]

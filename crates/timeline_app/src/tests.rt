@@ -325,7 +325,14 @@ fn exported_again(rt: HostRuntime) -> Result<(), Fail> {
     run_alone(alloc, &words, &mut store, &mut first, &mut screen, &mut out);
     let file = first.file("o.mkv").ok_or("the file is there")?;
     store.add("a.mkv", Vec::from_slice(alloc, file)?)?;
-    run_alone(alloc, &words, &mut store, &mut second, &mut screen, &mut out);
+    run_alone(
+        alloc,
+        &words,
+        &mut store,
+        &mut second,
+        &mut screen,
+        &mut out,
+    );
     assert_eq!(rt; second.file("o.mkv"), Some(file));
     assert_eq!(rt; file.len(), 268);
     Ok(())
