@@ -37,6 +37,10 @@ def ffmpeg(words, folder) -> Ran:
     return run(["ffmpeg", "-hide_banner", "-nostdin", "-y", "-v", "warning", *words], folder)
 
 
+def mkvmerge(words, folder) -> Ran:
+    return run(["mkvmerge", "--ui-language", "en_US", "-q", *words], folder)
+
+
 def has_encoder(name: str) -> bool:
     return re.search(rf"(?m)^ V\S* {name} ", run(["ffmpeg", "-hide_banner", "-encoders"], ".").out) is not None
 
@@ -55,10 +59,10 @@ def hashes_in(path: Path) -> List[Tuple[str, str]]:
     return [(row[-2].strip(), row[-1].strip()) for row in rows]
 
 
-def frames_of(file: str, folder: Path) -> Frames:
+def frames_of(file: str, folder: Path, stream="0:v:0") -> Frames:
     packets, pictures = folder / f"{file}.packets", folder / f"{file}.pictures"
-    copied = ["-map", "0:v:0", "-c", "copy", "-f", "framemd5", packets]
-    decoded = ["-map", "0:v:0", "-fps_mode", "passthrough", "-f", "framemd5", pictures]
+    copied = ["-map", stream, "-c", "copy", "-f", "framemd5", packets]
+    decoded = ["-map", stream, "-fps_mode", "passthrough", "-f", "framemd5", pictures]
     ran = ffmpeg(["-i", file, *copied, *decoded], folder)
     said = ran.err.strip() or (f"ffmpeg ended with status {ran.status}" if ran.status else "")
     found = [hashes_in(it) if it.exists() else [] for it in (packets, pictures)]
