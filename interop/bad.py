@@ -13,7 +13,7 @@ import clips
 import reader
 from refused import cuts, refused_files
 from report import Report, differs
-from taken import taken_files
+from taken import other_records, taken_files
 from tools import PROGRAM, changed, done, run, script, sums_of, timeline
 from variants import Builder
 from written import written_file
@@ -37,6 +37,7 @@ class Try(NamedTuple):
     words: Sequence[str] = ("s",)
     writes: Optional[str] = None
     under: Sequence[str] = ()
+    export: Optional[bytes] = None  # where it isn't that of the folder's clip
 
 
 class Ground:
@@ -56,8 +57,9 @@ class Ground:
             "sub/a.mkv": self.data,
         }
 
-    def written(self, rate: int) -> bytes:
-        return written_file(self.clip.record, self.clip.width, self.clip.height, rate, self.clip.packets())
+    def written(self, rate: int, record: Optional[bytes] = None) -> bytes:
+        clip = self.clip
+        return written_file(record or clip.record, clip.width, clip.height, rate, clip.packets())
 
     def lay(self, files: Dict[str, bytes]):
         shutil.rmtree(self.folder, ignore_errors=True)
@@ -78,7 +80,7 @@ class Ground:
         faults.append(changed(before, after, [it.writes] if it.writes else []))
         if it.writes:
             path = self.folder / it.writes
-            is_right = path.is_file() and path.read_bytes() == self.export
+            is_right = path.is_file() and path.read_bytes() == (it.export or self.export)
             faults.append("" if is_right else f"{it.writes} isn't the right export")
         report.check(it.name, faults)
 
@@ -164,6 +166,9 @@ def clip_files(ground: Ground):
     for name, data in taken_files(ground.clip).items():
         yield Try(f"clip taken: {name}", done(FRAMES), 0, {"a.mkv": data}, writes="o.mkv")
     yield Try("clip taken: an export of the program", done(FRAMES), 0, {"a.mkv": ground.export}, writes="o.mkv")
+    for name, (data, record) in other_records(ground.clip).items():
+        export = ground.written(RATE, record)
+        yield Try(f"clip taken: {name}", done(FRAMES), 0, {"a.mkv": data}, writes="o.mkv", export=export)
     for kind, files in refused_clips(ground).items():
         for name, data in files.items():
             yield Try(f"clip {kind}: {name}", f"fault line 2 clip {kind}\n", 3, {"a.mkv": data})

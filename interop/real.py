@@ -6,7 +6,7 @@ is the one that ffmpeg itself and the reader of this folder find in it, and a re
 
 import subprocess
 from pathlib import Path
-from typing import Callable, Dict, NamedTuple
+from typing import Callable, Dict, Set
 
 import mkv
 import reader
@@ -63,25 +63,77 @@ class Bench:
             raise RuntimeError(f"mkvmerge made no a.mkv: {ran.out.strip()}")
 
 
+def has_unknown_size(data, element: reader.Element) -> bool:
+    return reader.head_at(data, element.at, len(data))[1] is None
+
+
+def shapes_of(data) -> Set[str]:
+    """What a file has of the things for which the files of the tables are made."""
+    segment = reader.first(reader.elements(data, 0, len(data), reader.FILE)[0], Id.SEGMENT)
+    clusters = list(reader.of_id(segment.children, Id.CLUSTER))
+    tracks = list(reader.of_id(segment.children, Id.TRACKS))
+    parts = [part for cluster in clusters for part in cluster.children]
+    blocks = [reader.block_of(data, part) for part in reader.of_id(parts, Id.SIMPLE_BLOCK)]
+    kind = reader.first(reader.first(tracks[0].children, Id.TRACK_ENTRY).children, Id.TRACK_TYPE)
+    shapes = {
+        "a Segment of unknown size": has_unknown_size(data, segment),
+        "a Cluster of unknown size": any(has_unknown_size(data, cluster) for cluster in clusters),
+        "a BlockGroup": any(reader.of_id(parts, Id.BLOCK_GROUP)),
+        "a laced block": any(block.flags & mkv.LACING for block in blocks),
+        "a second Tracks": len(tracks) > 1,
+        "a first track without pictures": reader.number_of(data, kind) != mkv.VIDEO_TRACK,
+    }
+    return {shape for shape, is_there in shapes.items() if is_there}
+
+
+def having(it: Bench, shape: str, make: Callable[[], None]) -> Callable[[], None]:
+    """Makes a file, and fails where it isn't what it was made for."""
+
+    def made():
+        make()
+        if shape not in shapes_of(reader.view_of(it.folder / "a.mkv")):
+            raise RuntimeError(f"the file has not {shape}")
+
+    return made
+
+
+def opened(it: Bench, make: Callable[[], None]):
+    """Spells the sizes of a file's Clusters as unknown, as other programs do that write to a pipe."""
+    make()
+    data = bytearray((it.folder / "a.mkv").read_bytes())
+    segment = reader.first(reader.elements(data, 0, len(data), reader.FILE)[0], Id.SEGMENT)
+    for cluster in reader.of_id(segment.children, Id.CLUSTER):
+        width = cluster.start - cluster.at - 4
+        data[cluster.at + 4 : cluster.start] = ((2 << 7 * width) - 1).to_bytes(width, "big")
+    (it.folder / "a.mkv").write_bytes(data)
+
+
 def by_ffmpeg(it: Bench) -> Dict[str, Callable[[], None]]:
     encode = [*PICTURE, *FFV1]
-    both = lambda sound, order, *words: lambda: it.by_ffmpeg(
-        "-i", "picture.mkv", "-i", "sound.wav", *order, "-c:v", "copy", "-c:a", sound, *words
+    both = ["-i", "picture.mkv", "-i", "sound.wav", "-c:v", "copy"]
+    behind = lambda sound: lambda: it.by_ffmpeg(*both, "-map", "0:v", "-map", "1:a", "-c:a", sound)
+    before = lambda sound, *words: having(
+        it,
+        "a first track without pictures",
+        lambda: it.by_ffmpeg(*both, "-map", "1:a", "-map", "0:v", "-c:a", sound, *words),
     )
-    picture_first, sound_first = ["-map", "0:v", "-map", "1:a"], ["-map", "1:a", "-map", "0:v"]
+    live = lambda make: having(it, "a Segment of unknown size", make)
     extras = ["-i", "picture.mkv", "-i", "words.srt", "-i", "chapters", "-map", "0", "-map", "1", "-map_metadata", 2]
     note = ["-attach", "note.txt", "-metadata:s:t", "mimetype=text/plain"]
     return {
         "as it is": lambda: it.by_ffmpeg(*encode),
-        "-live 1": lambda: it.by_ffmpeg(*encode, "-live", 1),
-        "to a pipe": lambda: it.piped(*encode),
-        "to a pipe, -live 1": lambda: it.piped(*encode, "-live", 1),
+        "-live 1": live(lambda: it.by_ffmpeg(*encode, "-live", 1)),
+        "to a pipe": live(lambda: it.piped(*encode)),
+        "to a pipe, -live 1": live(lambda: it.piped(*encode, "-live", 1)),
+        "to a pipe, with Clusters of unknown size": having(
+            it, "a Cluster of unknown size", lambda: opened(it, lambda: it.piped(*encode))
+        ),
         "the Cues before the Clusters": lambda: it.by_ffmpeg(*encode, "-reserve_index_space", 4096),
-        "PCM after the picture": both("pcm_s16le", picture_first),
-        "PCM before the picture": both("pcm_s24le", sound_first),
-        "FLAC after the picture": both("flac", picture_first),
-        "FLAC before the picture": both("flac", sound_first),
-        "FLAC before the picture, -live 1": both("flac", sound_first, "-live", 1),
+        "PCM after the picture": behind("pcm_s16le"),
+        "PCM before the picture": before("pcm_s24le"),
+        "FLAC after the picture": behind("flac"),
+        "FLAC before the picture": before("flac"),
+        "FLAC before the picture, -live 1": before("flac", "-live", 1),
         "chapters, subtitles, tags and an attachment": lambda: it.by_ffmpeg(*extras, "-c", "copy", *note),
         "a second FFV1 track": lambda: it.by_ffmpeg(
             "-i", "picture.mkv", *PICTURE, "-map", "0:v", "-map", "1:v", *FFV1, "-filter:v:1", "hue=h=90"
@@ -91,17 +143,20 @@ def by_ffmpeg(it: Bench) -> Dict[str, Callable[[], None]]:
 
 def by_mkvmerge(it: Bench) -> Dict[str, Callable[[], None]]:
     merged = lambda *words: lambda: it.merged(*words)
+    grouped = lambda *words: having(it, "a BlockGroup", merged("--engage", "no_simpleblocks", *words))
     chapters = ["--chapters", "chapters.txt", "--attach-file", "note.txt"]
     (it.folder / "chapters.txt").write_text("CHAPTER01=00:00:00.000\nCHAPTER01NAME=one\n")
     return {
         "as it is": merged("picture.mkv"),
-        "no_simpleblocks": merged("--engage", "no_simpleblocks", "picture.mkv"),
-        "no_simpleblocks, with FLAC before the picture": merged("--engage", "no_simpleblocks", "sound.flac", "picture.mkv"),
+        "no_simpleblocks": grouped("picture.mkv"),
+        "no_simpleblocks, with FLAC before the picture": grouped("sound.flac", "picture.mkv"),
         "from an AVI": merged("picture.avi"),
-        "from an AVI, no_simpleblocks": merged("--engage", "no_simpleblocks", "picture.avi"),
-        "the track headers twice": merged("--engage", "write_headers_twice", "picture.mkv"),
+        "from an AVI, no_simpleblocks": grouped("picture.avi"),
+        "the track headers twice": having(
+            it, "a second Tracks", merged("--engage", "write_headers_twice", "picture.mkv")
+        ),
         "no Cues": merged("--cues", "0:none", "picture.mkv"),
-        "laced PCM before the picture": merged("sound.wav", "picture.mkv"),
+        "PCM before the picture": having(it, "a laced block", merged("sound.wav", "picture.mkv")),
         "FLAC, subtitles, chapters and an attachment": merged("picture.mkv", "sound.flac", "words.srt", *chapters),
         "compressed subtitles": merged("--compression", "0:zlib", "words.srt", "picture.mkv"),
     }

@@ -3,11 +3,11 @@
 Record, packets and size are those of that file, by the rules of docs/FORMATS.md "The file that is read".
 """
 
-from typing import Dict
+from typing import Dict, Tuple
 
 import mkv
 from mkv import KEY, TOP_LEVEL, Id, big_endian, ebml_head, element, info, master, simple_block, unsigned
-from reader import MOST_FRAMES, Clip
+from reader import MOST_FRAMES, MOST_RECORD_BYTES, Clip
 from variants import HUGE, UNKNOWN, Builder, bitmap, huge, long_number, opened, void
 
 
@@ -186,3 +186,28 @@ def taken_unknown_sizes(it: Builder) -> Dict[str, bytes]:
 def taken_files(clip: Clip) -> Dict[str, bytes]:
     it = Builder(clip)
     return {**taken_elements(it), **taken_tracks(it), **taken_clusters(it), **taken_unknown_sizes(it)}
+
+
+def parity(data: bytes) -> bytes:
+    """The remainder of the bytes followed by 32 zero bits by the polynomial 04C11DB7 (RFC 9043 section 4.9.3)."""
+    left = 0
+    for byte in data:
+        left ^= byte << 24
+        for _ in range(8):
+            left = (left << 1) ^ (0x104C11DB7 if left >> 31 else 0)
+    return big_endian(left, 4)
+
+
+def other_records(clip: Clip) -> Dict[str, Tuple[bytes, bytes]]:
+    """Files with another record than the clip's, and that record: zero bytes at its end don't change what it says."""
+    it = Builder(clip)
+    padded = it.record[:-4] + bytes(MOST_RECORD_BYTES - len(it.record))
+    longest = padded + parity(padded)
+    zero = it.record + b"\0"
+    n = 40 + len(zero)
+    return {
+        "a record of 65,536 bytes": (it.file(it.tracks(private=element(Id.CODEC_PRIVATE, [longest]))), longest),
+        "FOURCC, a record of 65,536 bytes": (it.file(it.fourcc(bitmap(40, longest))), longest),
+        "FOURCC, a zero byte behind the record, biSize 40": (it.file(it.fourcc(bitmap(40, zero))), zero),
+        "FOURCC, a zero byte behind the record, biSize 40 and n": (it.file(it.fourcc(bitmap(n, zero))), zero),
+    }
