@@ -61,6 +61,7 @@ def taken_tracks(it: Builder) -> Dict[str, bytes]:
         "a sound track before it": tracks(sound, it.entry()),
         "a sound track with the codec V_FFV1 before it": tracks(as_sound, it.entry()),
         "an H.264 track before it": tracks(avc, it.entry()),
+        "a hundred thousand sound tracks before it": tracks([b"".join(sound) * 100_000], it.entry()),
         "a FOURCC track without a bitmap before it": tracks(vfw, it.entry()),
         "a second FFV1 track with faulty parts": tracks(it.entry(), second),
         "a second FFV1 track with blocks": it.file(master(Id.TRACKS, it.entry(), second), it.cluster(blocks=from_second)),
@@ -106,7 +107,7 @@ def taken_clusters(it: Builder) -> Dict[str, bytes]:
     stamped = lambda timestamp, *blocks: it.cluster(timestamp, blocks)
     clusters = lambda *given: it.of(it.segment(it.tracks(), *given))
     at = lambda number, time: simple_block(1, time, it.packets[number])
-    any_frame = simple_block(1, 0, b"any")
+    any_frame = simple_block(1, 80, b"any")
     groups, contents = it.groups(), it.contents()
     front = stamped(stamp(0), one, two)
     both = master(Id.BLOCK_GROUP, *(element(Id.BLOCK, content) for content in contents[1:]))
@@ -144,7 +145,9 @@ def taken_clusters(it: Builder) -> Dict[str, bytes]:
         "a block of another track without a packet": it.with_blocks(one, simple_block(0x4000, 0, b""), two, three),
         "a million more Clusters": it.file(after=[[(big_endian(Id.CLUSTER) + b"\x80") * 1_000_000]]),
         "a million more Clusters of unknown size": it.file(after=[[(big_endian(Id.CLUSTER) + b"\xff") * 1_000_000]]),
-        "a million frames": it.file(after=[stamped(stamp(80), any_frame * (MOST_FRAMES - 3))]),
+        "a million frames, and then their Timestamp": it.file(
+            cluster=it.cluster([], it.blocks(), after=[any_frame * (MOST_FRAMES - 3), stamp(1)])
+        ),
     }
 
 
@@ -172,6 +175,9 @@ def taken_unknown_sizes(it: Builder) -> Dict[str, bytes]:
             cluster=opened(Id.CLUSTER, void(), stamp, one, void(0), two, crc, element(0x4FFF, [b"any"]), three)
         ),
         "BlockGroups in a Cluster of unknown size": it.file(cluster=opened(Id.CLUSTER, *groups, stamp)),
+        "a million BlockGroups in a Cluster of unknown size": it.file(
+            cluster=opened(Id.CLUSTER, [b"\xa0\x80" * 1_000_000], *it.blocks())
+        ),
         "an EBML in a Cluster of unknown size": it.file(cluster=opened(Id.CLUSTER, one, ebml_head(), two, three)),
         **{
             f"a Cluster of unknown size, spelled in {width} bytes": it.file(
