@@ -11,7 +11,7 @@ import clips
 import reader
 from mkv import AUDIO_TRACK, KEY, Id, ebml_head, element, master, simple_block, unsigned
 from report import Report, differs
-from tools import done, script, timeline
+from tools import BUILT, done, script, timeline
 from variants import Builder, bitmap, opened, void
 from written import written_file
 
@@ -66,7 +66,7 @@ def fault_of(folder: Path, name: str, data: bytes) -> str:
     export = folder / "o.mkv"
     export.unlink(missing_ok=True)
     (folder / "a.mkv").write_bytes(data)
-    ran = timeline(["s"], folder)
+    ran = timeline(["s"], folder, BUILT)
     out, status, wanted = wanted_of(data)
     made = export.read_bytes() if export.exists() else None
     faults = [differs("the output", ran.out, out), differs("the status", ran.status, status), ran.err]

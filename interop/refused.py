@@ -33,6 +33,7 @@ def bad_elements(it: Builder) -> Dict[str, bytes]:
         "a Segment of 2^56 - 2 bytes": it.of(huge(Id.SEGMENT), it.tracks(), it.cluster()),
         "a Segment of unknown size in the Segment": it.file(after=[opened(Id.SEGMENT)]),
         "an id that begins with four zero bits": between(b"\x0f\x80"),
+        "an id of 5 bytes": between(b"\x08\0\0\0\1\x80"),
         "a size that begins with a zero byte": between(b"\xec\x00" + bytes(8)),
         "an id that ends after its Segment": it.of(it.segment(it.tracks(), it.cluster(), [b"\x1f\x43"]), [b"\xb6\x75\x80"]),
         "a size that ends after its Segment": it.of(it.segment(it.tracks(), it.cluster(), [b"\xec\x40"]), [b"\x00"]),

@@ -9,6 +9,8 @@ from typing import Dict, List, NamedTuple, Tuple
 
 HERE = Path(__file__).resolve().parent
 PROGRAM = os.environ.get("TIMELINE_PROGRAM") or str(HERE.parent / "timeline")
+# The program without its launcher, which looks at all sources before each run.
+BUILT = os.environ.get("TIMELINE_PROGRAM") or str(HERE.parent / "crates" / "timeline_app" / "out" / "timeline_app")
 SECONDS, TIMED_OUT = 60, 124
 
 
@@ -29,8 +31,8 @@ def run(words, folder, stdout=subprocess.PIPE) -> Ran:
     return Ran(ran.returncode, (ran.stdout or b"").decode(errors="replace"), ran.stderr.decode(errors="replace"))
 
 
-def timeline(words, folder, **how) -> Ran:
-    return run([PROGRAM, *words], folder, **how)
+def timeline(words, folder, program=PROGRAM, **how) -> Ran:
+    return run([program, *words], folder, **how)
 
 
 def ffmpeg(words, folder) -> Ran:
