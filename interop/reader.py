@@ -4,7 +4,7 @@ Written from those rules and RFC 8794 and 9559, not from the program, for whose 
 """
 
 import mmap
-from typing import Dict, Iterator, List, NamedTuple, Optional, Tuple
+from typing import Iterator, List, NamedTuple, Optional, Tuple
 
 from mkv import LACING, TOP_LEVEL, VIDEO_TRACK, Id
 

@@ -6,9 +6,9 @@ Record, packets and size are those of that file, by the rules of docs/FORMATS.md
 from typing import Dict, Tuple
 
 import mkv
-from mkv import KEY, TOP_LEVEL, Id, big_endian, ebml_head, element, info, master, simple_block, unsigned
+from mkv import KEY, TOP_LEVEL, Id, big_endian, ebml_head, element, master, simple_block, unsigned
 from reader import MOST_FRAMES, MOST_RECORD_BYTES, Clip
-from variants import HUGE, UNKNOWN, Builder, bitmap, huge, long_number, opened, void
+from variants import HUGE, Builder, bitmap, huge, long_number, opened, void
 
 
 def taken_elements(it: Builder) -> Dict[str, bytes]:
@@ -45,6 +45,7 @@ def taken_elements(it: Builder) -> Dict[str, bytes]:
 
 
 def taken_tracks(it: Builder) -> Dict[str, bytes]:
+    """Other tracks beside the clip's."""
     tracks = lambda *entries: it.file(master(Id.TRACKS, *entries))
     sound, avc = it.other(2, mkv.AUDIO_TRACK, b"A_PCM/INT/LIT"), it.other(2, mkv.VIDEO_TRACK, b"V_MPEG4/ISO/AVC")
     vfw = it.other(2, mkv.VIDEO_TRACK, b"V_MS/VFW/FOURCC")
@@ -52,8 +53,6 @@ def taken_tracks(it: Builder) -> Dict[str, bytes]:
     second = it.entry(number=unsigned(Id.TRACK_NUMBER, 2), video=it.video(width=unsigned(Id.PIXEL_WIDTH, 0)))
     encoded = it.entry(extra=[element(Id.CONTENT_ENCODINGS, [])])
     from_second = [part for pair in zip(it.blocks((9, 3, 1), 2, KEY | 6), it.blocks()) for part in pair]
-    number = lambda value: it.tracks(number=unsigned(Id.TRACK_NUMBER, value))
-    n, pad = 40 + len(it.record), b"\0\xff\xff"
     return {
         "two Tracks": it.file(it.tracks(), after=[master(Id.TRACKS, second)]),
         "Tracks after the Clusters": it.of(it.segment(it.cluster(), it.tracks())),
@@ -63,9 +62,16 @@ def taken_tracks(it: Builder) -> Dict[str, bytes]:
         "an H.264 track before it": tracks(avc, it.entry()),
         "a hundred thousand sound tracks before it": tracks([b"".join(sound) * 100_000], it.entry()),
         "a FOURCC track without a bitmap before it": tracks(vfw, it.entry()),
-        "a second FFV1 track with faulty parts": tracks(it.entry(), second),
+        "a second FFV1 track without a width": tracks(it.entry(), second),
         "a second FFV1 track with blocks": it.file(master(Id.TRACKS, it.entry(), second), it.cluster(blocks=from_second)),
         "a second FFV1 track with ContentEncodings": tracks(it.entry(), encoded),
+    }
+
+
+def taken_entries(it: Builder) -> Dict[str, bytes]:
+    """The parts of the clip's TrackEntry: in other spellings, missing, and more than once."""
+    number = lambda value: it.tracks(number=unsigned(Id.TRACK_NUMBER, value))
+    return {
         "track number 127": it.file(number(127), it.cluster(blocks=it.blocks(track=127))),
         "track number 2^56 - 2": it.file(number(HUGE), it.cluster(blocks=it.blocks(track=HUGE))),
         "no TrackNumber, and blocks of track 0": it.file(it.tracks(number=[]), it.cluster(blocks=it.blocks(track=0))),
@@ -91,6 +97,12 @@ def taken_tracks(it: Builder) -> Dict[str, bytes]:
             it.tracks(video=it.video(extra=[long_number(Id.TRACK_NUMBER)]), extra=[long_number(Id.PIXEL_WIDTH)]),
             after=[long_number(Id.TIMESTAMP)],
         ),
+    }
+
+
+def taken_bitmaps(it: Builder) -> Dict[str, bytes]:
+    n, pad = 40 + len(it.record), b"\0\xff\xff"
+    return {
         "FOURCC, biSize at the end": it.file(it.fourcc(bitmap(n, it.record))),
         "FOURCC, biSize before the end": it.file(it.fourcc(bitmap(n, it.record + pad))),
         "FOURCC, biSize past the end": it.file(it.fourcc(bitmap(n + 1, it.record))),
@@ -101,30 +113,19 @@ def taken_tracks(it: Builder) -> Dict[str, bytes]:
 
 
 def taken_clusters(it: Builder) -> Dict[str, bytes]:
-    """Clusters of known size."""
+    """Blocks in Clusters of known size."""
     one, two, three = it.blocks()
     stamp = lambda value: unsigned(Id.TIMESTAMP, value)
     stamped = lambda timestamp, *blocks: it.cluster(timestamp, blocks)
     clusters = lambda *given: it.of(it.segment(it.tracks(), *given))
-    at = lambda number, time: simple_block(1, time, it.packets[number])
     any_frame = simple_block(1, 80, b"any")
     groups, contents = it.groups(), it.contents()
-    front = stamped(stamp(0), one, two)
     both = master(Id.BLOCK_GROUP, *(element(Id.BLOCK, content) for content in contents[1:]))
     stray = element(Id.BLOCK, contents[2])
-    wide_track = [element(Id.SIMPLE_BLOCK, [b"\x01" + bytes(6) + b"\x01" + it[0][1:], it[1]]) for it in contents]
+    wide_track = [element(Id.SIMPLE_BLOCK, [b"\x01" + bytes(6) + b"\x01" + head[1:], packet]) for head, packet in contents]
     return {
         "a frame a Cluster": clusters(*(it.cluster(blocks=[block]) for block in it.blocks())),
         "a Cluster without blocks": it.file(after=[stamped(stamp(120))]),
-        "no Timestamp": it.file(cluster=it.cluster(timestamp=[])),
-        "a Timestamp of no bytes": it.file(cluster=it.cluster(element(Id.TIMESTAMP, []))),
-        "a Timestamp after its blocks": clusters(front, it.cluster([], [at(2, 0)], after=[stamp(80)])),
-        "another Timestamp behind the first": clusters(front, stamped(stamp(80) + stamp(0), at(2, 0))),
-        "times before their Cluster's": clusters(stamped(stamp(80), at(0, -80), at(1, -40), at(2, 0))),
-        "the last times that there are": clusters(stamped(stamp((1 << 64) - 1), at(0, -1), at(1, 0), at(2, 0x7FFF))),
-        "times below 0": clusters(stamped(stamp(0), at(0, -0x8000), at(1, -1), at(2, 0))),
-        "a Cluster that begins after its first block": clusters(front, stamped(stamp(1000), at(2, -960))),
-        "equal times": it.file(cluster=it.cluster(blocks=it.blocks(times=(7, 7, 7)))),
         "no key flags": it.file(cluster=it.cluster(blocks=it.blocks(flags=0))),
         "all flags but those of lacing": it.file(cluster=it.cluster(blocks=it.blocks(flags=0xF9))),
         "a block's track number in 8 bytes": it.with_blocks(*wide_track),
@@ -148,6 +149,26 @@ def taken_clusters(it: Builder) -> Dict[str, bytes]:
         "a million frames, and then their Timestamp": it.file(
             cluster=it.cluster([], it.blocks(), after=[any_frame * (MOST_FRAMES - 3), stamp(1)])
         ),
+    }
+
+
+def taken_times(it: Builder) -> Dict[str, bytes]:
+    """Timestamps and times that don't fall."""
+    at = lambda number, time: simple_block(1, time, it.packets[number])
+    stamp = lambda value: unsigned(Id.TIMESTAMP, value)
+    stamped = lambda timestamp, *blocks: it.cluster(timestamp, blocks)
+    clusters = lambda *given: it.of(it.segment(it.tracks(), *given))
+    front = stamped(stamp(0), *it.blocks()[:2])
+    return {
+        "no Timestamp": it.file(cluster=it.cluster(timestamp=[])),
+        "a Timestamp of no bytes": it.file(cluster=it.cluster(element(Id.TIMESTAMP, []))),
+        "a Timestamp after its blocks": clusters(front, it.cluster([], [at(2, 0)], after=[stamp(80)])),
+        "another Timestamp behind the first": clusters(front, stamped(stamp(80) + stamp(0), at(2, 0))),
+        "times before their Cluster's": clusters(stamped(stamp(80), at(0, -80), at(1, -40), at(2, 0))),
+        "the last times that there are": clusters(stamped(stamp((1 << 64) - 1), at(0, -1), at(1, 0), at(2, 0x7FFF))),
+        "times below 0": clusters(stamped(stamp(0), at(0, -0x8000), at(1, -1), at(2, 0))),
+        "a Cluster that begins after its first block": clusters(front, stamped(stamp(1000), at(2, -960))),
+        "equal times": it.file(cluster=it.cluster(blocks=it.blocks(times=(7, 7, 7)))),
     }
 
 
@@ -191,7 +212,9 @@ def taken_unknown_sizes(it: Builder) -> Dict[str, bytes]:
 
 def taken_files(clip: Clip) -> Dict[str, bytes]:
     it = Builder(clip)
-    return {**taken_elements(it), **taken_tracks(it), **taken_clusters(it), **taken_unknown_sizes(it)}
+    tracks = {**taken_tracks(it), **taken_entries(it), **taken_bitmaps(it)}
+    clusters = {**taken_clusters(it), **taken_times(it), **taken_unknown_sizes(it)}
+    return {**taken_elements(it), **tracks, **clusters}
 
 
 def parity(data: bytes) -> bytes:
