@@ -1,5 +1,5 @@
 /* The twin in C of the range coder and the parity, and the measure of both: it records a sequence of symbols and their bits,
-   lets each side write and read it by turns, and prints the best time of each. `bench/bits` builds and runs it. */
+   lets each side write and read it by turns, and prints the best of each and the median of the ratios. `bench/bits` builds and runs it. */
 
 #define _POSIX_C_SOURCE 199309L
 
@@ -10,7 +10,7 @@
 #include <string.h>
 #include <time.h>
 
-enum { SETS = 512, STATES = 32 * SETS, ROUNDS = 15 };
+enum { SETS = 512, STATES = 32 * SETS, ROUNDS = 21 };
 enum { BITS = 10000000, PARITY_BYTES = 16 << 20 };
 
 /* A signed value, and the set that its symbol is coded with. */
@@ -330,10 +330,11 @@ static void record(void)
 
 /* ---- measuring */
 
+/* Seconds of processor time, so that other programs count less. */
 static double now(void)
 {
     struct timespec t;
-    clock_gettime(CLOCK_MONOTONIC, &t);
+    clock_gettime(CLOCK_PROCESS_CPUTIME_ID, &t);
     return t.tv_sec + t.tv_nsec / 1e9;
 }
 
@@ -358,7 +359,7 @@ static uint32_t parity_wanted;
 static bool parity_ours(void) { return bits_c_parity(noise_bytes, PARITY_BYTES) == parity_wanted; }
 static bool parity_twin(void) { return twin_parity(noise_bytes, PARITY_BYTES) == parity_wanted; }
 
-static double timed(bool (*pass)(void), const char *name, double best)
+static double timed(bool (*pass)(void), const char *name)
 {
     double start = now();
     bool right = pass();
@@ -367,18 +368,27 @@ static double timed(bool (*pass)(void), const char *name, double best)
         fprintf(stderr, "bench/bits: %s: the two sides differ\n", name);
         exit(1);
     }
-    return time < best ? time : best;
+    return time;
 }
 
-/* The best times of both sides, which take turns. */
+static int by_size(const void *a, const void *b)
+{
+    double x = *(const double *)a, y = *(const double *)b;
+    return (x > y) - (x < y);
+}
+
+/* The best times of both sides, which take turns, and the median of the rounds' ratios. */
 static void measure(const char *name, bool (*ours)(void), bool (*twin)(void), double count, const char *unit)
 {
-    double best_ours = 1e9, best_twin = 1e9;
+    double best_ours = 1e9, best_twin = 1e9, ratios[ROUNDS];
     for (int round = 0; round < ROUNDS; round++) {
-        best_twin = timed(twin, name, best_twin);
-        best_ours = timed(ours, name, best_ours);
+        double twin_time = timed(twin, name), our_time = timed(ours, name);
+        best_twin = twin_time < best_twin ? twin_time : best_twin;
+        best_ours = our_time < best_ours ? our_time : best_ours;
+        ratios[round] = our_time / twin_time;
     }
-    printf("%-16s%12.1f%12.1f  %-12s%8.2f\n", name, count / best_ours / 1e6, count / best_twin / 1e6, unit, best_ours / best_twin);
+    qsort(ratios, ROUNDS, sizeof *ratios, by_size);
+    printf("%-16s%12.1f%12.1f  %-12s%8.2f\n", name, count / best_ours / 1e6, count / best_twin / 1e6, unit, ratios[ROUNDS / 2]);
 }
 
 int main(void)
@@ -396,8 +406,8 @@ int main(void)
     for (size_t i = 0; i < PARITY_BYTES; i++)
         noise_bytes[i] = noise() >> 32;
     parity_wanted = twin_parity(noise_bytes, PARITY_BYTES);
-    printf("%zu bits of %zu symbols in %zu bytes; best of %d rounds\n", bit_count, symbol_count, part_count, ROUNDS);
-    printf("%-16s%12s%12s  %-12s%8s\n", "", "Rattle", "C", "", "time");
+    printf("%zu bits of %zu symbols in %zu bytes; %d rounds\n", bit_count, symbol_count, part_count, ROUNDS);
+    printf("%-16s%12s%12s  %-12s%8s\n", "best of each", "Rattle", "C", "", "time");
     measure("read bits", read_ours, read_twin, bit_count, "M bits/s");
     measure("write bits", write_ours, write_twin, bit_count, "M bits/s");
     measure("read symbols", read_symbols_ours, read_symbols_twin, bit_count, "M bits/s");
