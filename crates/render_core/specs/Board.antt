@@ -103,10 +103,9 @@ module _ {M F : Type 0} where
     pub spare : new.spare ≡ old.spare
 
 -- One turn of the machine: its next state and its reply, or want of memory.
-abbrev pub Turns : {M F R : Type 0} → (old new : MachineOf M) → State → Reply F → (R → Reply F) → Result R Full → Type 0
+abbrev pub Turns : {M F R E : Type 0} → (old new : MachineOf M) → State → Reply F → (R → Reply F) → Result R E → Type 0
 Turns old new state told view (Ok given) = (new ≡ in_state state old) × (view given ≡ told)
-Turns old new state told view (Err (full.JournalFull len owing)) = ⊥
-Turns old new state told view (Err full.NoMemory) = new ≡ old
+Turns old new state told view (Err why) = new ≡ old
 
 -- What the board keeps: it stands for the state after its journal, which is legal; what is owed is within the limit and has memory.
 pub record IsBoard {F : Type 0} (lib : Library F) (cache : ℕ) (state : State) (journal : List Entry) (limit owing room : ℕ) : Type 0 where
@@ -131,11 +130,11 @@ module _ {M F : Type 0} where
   Claims library old new pass (Ok (claims.Idle len)) = (new ≡ old) × (len ≡ length old.journal) × ((state_of library old).is_stopped ≡ false) × (position is_queued (state_of library old).jobs ≡ None)
   Claims library old new pass (Err why) = ((state_of library old).is_stopped ≡ false) × IsSome (position is_queued (state_of library old).jobs) × Refuses library old new 2 why
 
--- Room for some entries in a journal of so many, or why there is none.
-abbrev pub RoomFor : (len owing limit need room : ℕ) → Result Unit Full → Type 0
-RoomFor len owing limit need room (Ok done) = (len + owing + need ≤ limit) × (len + owing + need ≤ room)
-RoomFor len owing limit need room (Err (full.JournalFull told owes)) = (told ≡ len) × (owes ≡ owing) × (limit < len + owing + need)
-RoomFor len owing limit need room (Err full.NoMemory) = len + owing + need ≤ limit
+-- Room for some entries in a journal of so many, or why there is none. Room that is there is left as it is.
+abbrev pub RoomFor : (len owing limit need old new : ℕ) → Result Unit Full → Type 0
+RoomFor len owing limit need old new (Ok done) = (len + owing + need ≤ limit) × (len + owing + need ≤ new) × (old ≤ new) × (len + owing + need ≤ old → new ≡ old)
+RoomFor len owing limit need old new (Err (full.JournalFull told owes)) = (new ≡ old) × (told ≡ len) × (owes ≡ owing) × (limit < len + owing + need)
+RoomFor len owing limit need old new (Err full.NoMemory) = (new ≡ old) × (len + owing + need ≤ limit) × (old < len + owing + need)
 
 -- A fact for the claim that is answered.
 abbrev pub IfClaimed : Result ClaimReply Full → (ClaimOf → Type 0) → Type 0
@@ -145,7 +144,7 @@ IfClaimed (Ok (claims.Idle len)) fact = Unit {0}
 IfClaimed (Err why) fact = Unit {0}
 
 -- A fact for the recipe that isn't filed.
-abbrev pub IfPending : {F : Type 0} → Result (PlayReply F) Full → (Recipe → Type 0) → Type 0
+abbrev pub IfPending : {F E : Type 0} → Result (PlayReply F) E → (Recipe → Type 0) → Type 0
 IfPending (Ok (play.Pending recipe)) fact = fact recipe
 IfPending (Ok (play.Frame frame)) fact = Unit {0}
 IfPending (Ok (play.Fault fault)) fact = Unit {0}

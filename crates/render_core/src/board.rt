@@ -7,7 +7,7 @@ ghost use Rattle.tl_model.specs.Media.{RenderedOf, CanRender};
 ghost use Rattle.tl_model.specs.declared.journal.Act.TheVariants as act;
 ghost use Rattle.tl_model.specs.declared.journal.Entry.{Entry};
 ghost use Rattle.render_core.specs.declared.reply.Full.TheVariants as full;
-ghost use Rattle.render_core.specs.State.{owed, Holds};
+ghost use Rattle.render_core.specs.State.{owed, Holds, IsOrderly};
 ghost use Rattle.render_core.specs.Claim.{EndsNone};
 ghost use Rattle.render_core.specs.Calls.{CallOf, entered, Runs, Journals};
 ghost use Rattle.render_core.specs.Step.{IsJournal, state_after, is_filed};
@@ -75,6 +75,7 @@ impl<M: Media, L: Lane> Board<M, L> {
         ensures entries { result.now ≡ self.now.journal }
         ensures legal { IsJournal (M.library self.now.library) self.now.cache self.now.journal }
         ensures within { length self.now.journal + owed (state_of M.library self.now) ≤ self.now.limit }
+        ensures orderly { IsOrderly self.now.cache (state_of M.library self.now) }
     {
         let _ = &self.machine;
         self.journal.as_slice()
@@ -134,20 +135,7 @@ impl<M: Media, L: Lane> Board<M, L> {
         requires { need ≤ 2 }
         ensures { MakesRoom M.library self.old self.new need result }
     {
-        let len = self.journal.len() as u64;
-        if len + self.owed + need > self.limit {
-            return Err(Full::JournalFull {
-                len,
-                owed: self.owed,
-            });
-        }
-        if need <= self.spare() {
-            return Ok(());
-        }
-        match self.journal.reserve((self.owed + need) as usize) {
-            Ok(()) => Ok(()),
-            Err(_) => Err(Full::NoMemory),
-        }
+        room_for(&mut self.journal, self.owed, self.limit, need)
     }
 
     /// Makes an edit. A refused one has its entry and changes nothing else; an accepted one closes each open job
@@ -163,45 +151,34 @@ impl<M: Media, L: Lane> Board<M, L> {
         requires formed { IsEdit edit.now }
         ensures { Does M.library self.old self.new by (act.Edit edit.now) of_edit result }
     {
-        match self.make_room(1) {
-            Ok(()) => {}
-            Err(why) => return Err(why),
-        }
+        self.make_room(1)?;
         let Ok(copy) = edit.copy(alloc) else {
             return Err(Full::NoMemory);
         };
         let at = self.journal.len() as u64 + 1;
-        match self.machine.edit(alloc, media, edit, at) {
-            Ok(reply) => {
-                self.journal.push_reserved(Entry {
-                    pass: by,
-                    act: Act::Edit(copy),
-                });
-                Ok(reply)
-            }
-            Err(why) => Err(why),
-        }
+        let Ok(reply) = self.machine.edit(alloc, media, edit, at) else {
+            return Err(Full::NoMemory);
+        };
+        self.journal.push_reserved(Entry {
+            pass: by,
+            act: Act::Edit(copy),
+        });
+        Ok(reply)
     }
 
     /// Wants the pictures of a range of frames: each recipe that isn't filed and has no open job gets the next job.
     pub fn want(&mut self, by: u32, first: u32, len: u32) -> Result<WantReply, Full>
         ensures { Does M.library self.old self.new by (act.Want first len) of_want result }
     {
-        match self.make_room(1) {
-            Ok(()) => {}
-            Err(why) => return Err(why),
-        }
-        let at = self.journal.len() as u64 + 1;
-        match self.machine.want(at, first, len) {
-            Ok(reply) => {
-                self.journal.push_reserved(Entry {
-                    pass: by,
-                    act: Act::Want { first, len },
-                });
-                Ok(reply)
-            }
-            Err(why) => Err(why),
-        }
+        self.make_room(1)?;
+        let Ok(reply) = self.machine.want(first, len) else {
+            return Err(Full::NoMemory);
+        };
+        self.journal.push_reserved(Entry {
+            pass: by,
+            act: Act::Want { first, len },
+        });
+        Ok(reply)
     }
 
     /// Cancels the wanted frames of a range: each open job with a recipe of the range is closed.
@@ -210,10 +187,7 @@ impl<M: Media, L: Lane> Board<M, L> {
         ensures sure { 1 ≤ self.old.spare → result ≢ Err full.NoMemory }
         ensures uses { 1 ≤ self.old.spare → OnOk result (self.new.spare + 1 ≡ self.old.spare) }
     {
-        match self.make_room(1) {
-            Ok(()) => {}
-            Err(why) => return Err(why),
-        }
+        self.make_room(1)?;
         let at = self.journal.len() as u64 + 1;
         let reply = self.machine.cancel(at, first, len);
         self.journal.push_reserved(Entry {
@@ -237,10 +211,7 @@ impl<M: Media, L: Lane> Board<M, L> {
         let Some(place) = self.machine.lowest_queued() else {
             return Ok(ClaimReply::Idle { len });
         };
-        match room_for(&mut self.journal, self.owed, self.limit, 2) {
-            Ok(()) => {}
-            Err(why) => return Err(why),
-        }
+        room_for(&mut self.journal, self.owed, self.limit, 2)?;
         let claim = self.machine.claim(by, place);
         self.journal.push_reserved(Entry {
             pass: by,
@@ -264,7 +235,7 @@ impl<M: Media, L: Lane> Board<M, L> {
     {
         let job = claim.job();
         let at = self.journal.len() as u64 + 1;
-        match self.machine.file(at, by, claim, rendered) {
+        match self.machine.file(at, claim, rendered) {
             Ok(reply) => {
                 self.journal.push_reserved(Entry {
                     pass: by,
@@ -283,7 +254,7 @@ impl<M: Media, L: Lane> Board<M, L> {
         ensures { Pays M.library self.old self.new by (act.Release claim.job) of_release result }
     {
         let job = claim.job();
-        let reply = self.machine.release(by, claim);
+        let reply = self.machine.release(claim);
         self.journal.push_reserved(Entry {
             pass: by,
             act: Act::Release { job },
@@ -300,20 +271,15 @@ impl<M: Media, L: Lane> Board<M, L> {
         ensures renders { IfPending result (λ recipe. CanRender (M.library self.new.library) recipe) }
         ensures filed { 1 ≤ self.old.spare → result ≡ Err full.NoMemory → IsTrue (is_filed (slice_get (recipes (state_of M.library self.old).line) n) (state_of M.library self.old)) }
     {
-        match self.make_room(1) {
-            Ok(()) => {}
-            Err(why) => return Err(why),
-        }
-        match self.machine.play(n) {
-            Ok(reply) => {
-                self.journal.push_reserved(Entry {
-                    pass: by,
-                    act: Act::Play { n },
-                });
-                Ok(reply)
-            }
-            Err(why) => Err(why),
-        }
+        self.make_room(1)?;
+        let Ok(reply) = self.machine.play(n) else {
+            return Err(Full::NoMemory);
+        };
+        self.journal.push_reserved(Entry {
+            pass: by,
+            act: Act::Play { n },
+        });
+        Ok(reply)
     }
 
     /// Stops the session. It can't be refused.
@@ -340,13 +306,14 @@ fn room_for(journal: &mut Vec<Entry>, owed: u64, limit: u64, need: u64) -> Resul
     requires need { need ≤ 2 }
     requires kept { length journal.old.items + owed ≤ vec_capacity journal.old }
     ensures items { journal.new.items ≡ journal.old.items }
-    ensures room { RoomFor (length journal.old.items) owed limit need (vec_capacity journal.new) result }
-    ensures kept { vec_capacity journal.old ≤ vec_capacity journal.new }
-    ensures err { OnErr result (vec_capacity journal.new ≡ vec_capacity journal.old) }
+    ensures room { RoomFor (length journal.old.items) owed limit need (vec_capacity journal.old) (vec_capacity journal.new) result }
 {
     let len = journal.len() as u64;
     if len + owed + need > limit {
         return Err(Full::JournalFull { len, owed });
+    }
+    if len + owed + need <= journal.capacity() as u64 {
+        return Ok(());
     }
     match journal.reserve((owed + need) as usize) {
         Ok(()) => Ok(()),
