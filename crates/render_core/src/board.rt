@@ -9,11 +9,11 @@ ghost use Rattle.tl_model.specs.declared.journal.Entry.{Entry};
 ghost use Rattle.render_core.specs.declared.reply.Full.TheVariants as full;
 ghost use Rattle.render_core.specs.State.{owed, Holds, IsOrderly};
 ghost use Rattle.render_core.specs.Claim.{EndsNone};
-ghost use Rattle.render_core.specs.Calls.{CallOf, entered, Runs, Journals};
-ghost use Rattle.render_core.specs.Step.{IsJournal, state_after, is_filed};
+ghost use Rattle.render_core.specs.Calls.{entered, Runs, Journals};
+ghost use Rattle.render_core.specs.Step.{IsJournal, state_after, is_filed, Silent};
 ghost use Rattle.tl_model.specs.declared.recipe.Recipe.{Recipe};
 ghost use Rattle.time_list.specs.Cells.{recipes};
-ghost use Rattle.render_core.specs.Board.{BoardOf, state_of, IsSame, HasRoom, MakesRoom, RoomFor, Does, Adds, Pays, Claims, IfClaimed, of_edit, of_want, of_cancel, of_file, of_release, of_play, IfPending};
+ghost use Rattle.render_core.specs.Board.{BoardOf, state_of, IsSame, HasRoom, MakesRoom, RoomFor, CallOf, Makes, Does, Pays, Claims, IfClaimed, of_edit, of_want, of_cancel, of_file, of_release, of_play, IfPending};
 
 use crate::claim::{Claim, Stopper};
 use crate::machine::Machine;
@@ -77,7 +77,6 @@ impl<M: Media, L: Lane> Board<M, L> {
         ensures within { length self.now.journal + owed (state_of M.library self.now) ≤ self.now.limit }
         ensures orderly { IsOrderly self.now.cache (state_of M.library self.now) }
     {
-        let _ = &self.machine;
         self.journal.as_slice()
     }
 
@@ -98,7 +97,6 @@ impl<M: Media, L: Lane> Board<M, L> {
         ensures held { IsTrue result → Holds (state_of M.library self.now) by claim.now.job claim.now.recipe }
         ensures free { Holds (state_of M.library self.now) by claim.now.job claim.now.recipe → IsTrue result }
     {
-        let _ = &self.journal;
         self.machine.holds(by, claim)
     }
 
@@ -106,7 +104,6 @@ impl<M: Media, L: Lane> Board<M, L> {
     pub fn is_stopped(&self) -> bool
         ensures { result ≡ (state_of M.library self.now).is_stopped }
     {
-        let _ = &self.journal;
         self.machine.is_stopped()
     }
 
@@ -286,7 +283,7 @@ impl<M: Media, L: Lane> Board<M, L> {
     pub fn stop(&mut self, by: u32, stopper: Stopper)
         requires main { by ≡ 0 }
         requires once { (state_of M.library self.old).is_stopped ≡ false }
-        ensures added { Adds M.library self.old self.new by act.Stop }
+        ensures made { Makes M.library self.old self.new (Some (record { pass = by; act = act.Stop; told = Silent })) }
         ensures spare { self.new.spare ≡ self.old.spare }
     {
         let Stopper { of: () } = stopper;

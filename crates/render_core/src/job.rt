@@ -52,9 +52,8 @@ fn after_edit<L: Lane>(job: Job, lane: &L, at: u64) -> Job
 {
     if job.is_open() && !lane.uses(job.recipe) {
         Job {
-            recipe: job.recipe,
-            holder: job.holder,
             closed: Some(at),
+            ..job
         }
     } else {
         job
@@ -77,9 +76,8 @@ fn after_cancel<L: Lane>(job: Job, lane: &L, first: u32, len: u32, at: u64) -> J
 {
     if job.is_open() && has_recipe(lane, first, len, job.recipe) {
         Job {
-            recipe: job.recipe,
-            holder: job.holder,
             closed: Some(at),
+            ..job
         }
     } else {
         job
@@ -145,9 +143,8 @@ pub(crate) fn hold(jobs: &mut Vec<Job>, place: usize, by: u32) -> Job
 {
     let job = jobs[place];
     jobs[place] = Job {
-        recipe: job.recipe,
         holder: Some(by),
-        closed: job.closed,
+        ..job
     };
     job
 }
@@ -160,9 +157,8 @@ pub(crate) fn let_go(jobs: &mut Vec<Job>, place: usize) -> Job
 {
     let job = jobs[place];
     jobs[place] = Job {
-        recipe: job.recipe,
         holder: None,
-        closed: job.closed,
+        ..job
     };
     job
 }
@@ -174,9 +170,9 @@ pub(crate) fn end(jobs: &mut Vec<Job>, place: usize, at: u64)
 {
     let job = jobs[place];
     jobs[place] = Job {
-        recipe: job.recipe,
         holder: None,
         closed: Some(at),
+        ..job
     };
 }
 
