@@ -23,7 +23,8 @@ use std::marker::Model;
 use time_list::Lane;
 use tl_model::{Act, Edit, EditReply, Entry, Media, Rendered};
 
-/// The editing core: a timeline, jobs, filed results and the journal of all calls.
+/// The editing core: a timeline, jobs, filed results and the journal of all calls. It stands for the state after its
+/// journal; the entries and those that are owed are within the limit, and have memory.
 #[derive(Drop)]
 pub struct Board<M: Media, L: Lane> {
     machine: Machine<M, L>,
@@ -45,7 +46,8 @@ impl<M: Media, L: Lane> Model for Board<M, L> {
 }
 
 impl<M: Media, L: Lane> Board<M, L> {
-    /// An empty timeline and an empty journal. The board notes the library; the stop's entry is owed from the start.
+    /// An empty timeline and an empty journal. The board notes the library, keeps at most `cache` filed results, and
+    /// takes at most `limit` entries. The stop's entry is owed from the start.
     pub fn start(
         alloc: Global,
         media: &M,
@@ -70,7 +72,7 @@ impl<M: Media, L: Lane> Board<M, L> {
         Ok((board, Stopper { of: () }))
     }
 
-    /// The journal.
+    /// The journal, which is legal. After it a recipe has an open job or a filed result at most once.
     pub fn entries(&self) -> &[Entry]
         ensures entries { result.now ≡ self.now.journal }
         ensures legal { IsJournal (M.library self.now.library) self.now.cache self.now.journal }
@@ -260,8 +262,8 @@ impl<M: Media, L: Lane> Board<M, L> {
         reply
     }
 
-    /// Plays frame `n`: its picture, exactly where its recipe is filed; a pending recipe can be rendered. While `spare` is at least 1, only a frame whose
-    /// recipe is filed can want memory, since its picture is shared then.
+    /// Plays frame `n`: its picture or its fault, exactly where its recipe is filed. A pending recipe can be rendered.
+    /// While `spare` is at least 1, only a frame whose recipe is filed can want memory, since its picture is shared.
     pub fn play(&mut self, by: u32, n: u32) -> Result<PlayReply<M::Frame>, Full>
         ensures done { Does M.library self.old self.new by (act.Play n) of_play result }
         ensures uses { 1 ≤ self.old.spare → OnOk result (self.new.spare + 1 ≡ self.old.spare) }

@@ -12,7 +12,7 @@ use std::alloc::AllocError;
 use time_list::{Lane, recipe_in};
 use tl_model::{Media, Recipe, Rendered};
 
-/// A recipe to be rendered: the pass that holds the job, and the entry that closed it.
+/// A recipe to be rendered: the pass that holds the job, and the number of the entry that closed it, from 1.
 #[derive(Clone, Copy, Debug, PartialEq, Eq)]
 pub struct Job {
     pub recipe: Recipe,
@@ -21,12 +21,14 @@ pub struct Job {
 }
 
 impl Job {
+    /// Whether no entry closed the job.
     pub fn is_open(&self) -> bool
         ensures { result ≡ is_open self.now }
     {
         self.closed.is_none()
     }
 
+    /// Whether the job is open and no pass holds it.
     pub fn is_queued(&self) -> bool
         ensures { result ≡ is_queued self.now }
     {

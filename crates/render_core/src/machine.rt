@@ -23,6 +23,8 @@ use std::snapshot::Snapshot;
 use time_list::{ApplyFault, Lane, keeps_sound, recipe_in};
 use tl_model::{Edit, EditReply, Media, Rendered};
 
+/// What the calls of a board work on. Every filed result was rendered in the library, no recipe has two open jobs, and
+/// the recipe of every frame and job can be rendered.
 #[derive(Drop)]
 pub(crate) struct Machine<M: Media, L: Lane> {
     library: Snapshot<M>,
@@ -44,6 +46,7 @@ impl<M: Media, L: Lane> Model for Machine<M, L> {
 }
 
 impl<M: Media, L: Lane> Machine<M, L> {
+    /// No frames, no jobs, no results.
     pub(crate) fn start(alloc: Global, media: &M, cache: u32) -> Machine<M, L>
         ensures { result ≡ record { library = media.now; cache = cache; state = start } }
     {
@@ -57,6 +60,7 @@ impl<M: Media, L: Lane> Machine<M, L> {
         }
     }
 
+    /// Whether the session was stopped.
     pub(crate) fn is_stopped(&self) -> bool
         ensures { result ≡ self.now.state.is_stopped }
     {
@@ -78,6 +82,7 @@ impl<M: Media, L: Lane> Machine<M, L> {
         self.jobs.iter().position(|job| job.is_queued())
     }
 
+    /// Makes an edit or refuses it, as entry `at`.
     pub(crate) fn edit(
         &mut self,
         alloc: Global,
@@ -102,6 +107,7 @@ impl<M: Media, L: Lane> Machine<M, L> {
         }
     }
 
+    /// Makes the jobs of a range.
     pub(crate) fn want(&mut self, first: u32, len: u32) -> Result<WantReply, AllocError>
         ensures { Turns self.old self.new (step (M.library self.old.library) self.old.cache 0 0 (act.Want first len) self.old.state) (reply (M.library self.old.library) (act.Want first len) self.old.state) of_want result }
     {
@@ -115,6 +121,7 @@ impl<M: Media, L: Lane> Machine<M, L> {
         Ok(WantReply::Wanted { count })
     }
 
+    /// Closes the open jobs of a range, as entry `at`.
     pub(crate) fn cancel(&mut self, at: u64, first: u32, len: u32) -> CancelReply
         ensures state { self.new ≡ in_state (step (M.library self.old.library) self.old.cache at 0 (act.Cancel first len) self.old.state) self.old }
         ensures reply { of_cancel result ≡ reply (M.library self.old.library) (act.Cancel first len) self.old.state }
@@ -143,7 +150,7 @@ impl<M: Media, L: Lane> Machine<M, L> {
         }
     }
 
-    /// Ends a job that its pass holds, with its result. After want of memory the claim and the result come back.
+    /// Ends a job that a pass holds with its result, as entry `at`. After want of memory the claim and the result come back.
     pub(crate) fn file(
         &mut self,
         at: u64,
@@ -168,7 +175,7 @@ impl<M: Media, L: Lane> Machine<M, L> {
         Ok(FileReply::Filed)
     }
 
-    /// Gives a job back that its pass holds.
+    /// Gives a job back that a pass holds.
     pub(crate) fn release(&mut self, claim: Claim) -> ReleaseReply
         requires { IsHeld self.old.state claim }
         ensures state { self.new ≡ in_state (step (M.library self.old.library) self.old.cache 0 0 (act.Release claim.job) self.old.state) self.old }
@@ -182,6 +189,7 @@ impl<M: Media, L: Lane> Machine<M, L> {
         }
     }
 
+    /// The filed result of a frame, which comes first, or its recipe.
     pub(crate) fn play(&mut self, n: u32) -> Result<PlayReply<M::Frame>, AllocError>
         ensures turn { Turns self.old self.new (step (M.library self.old.library) self.old.cache 0 0 (act.Play n) self.old.state) (reply (M.library self.old.library) (act.Play n) self.old.state) of_play result }
         ensures renders { IfPending result (λ recipe. CanRender (M.library self.old.library) recipe) }
@@ -201,6 +209,7 @@ impl<M: Media, L: Lane> Machine<M, L> {
         Ok(given)
     }
 
+    /// No more claims.
     pub(crate) fn stop(&mut self)
         ensures { self.new ≡ in_state (step (M.library self.old.library) self.old.cache 0 0 act.Stop self.old.state) self.old }
     {
