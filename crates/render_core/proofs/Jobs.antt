@@ -161,9 +161,8 @@ first_or_rest r rs job false same e = omega arith
 first_or_rest r rs job true true e =
     let is : job.recipe ≡ r = same_recipe-true job.recipe r e in
     let w : same_recipe r job.recipe ≡ true = ap (same_recipe r) is ∙ same_recipe-same r in
-    let u : cond (same_recipe r job.recipe) 1 0 ≡ 1 = ap (λ (b : Bool). cond b 1 0) w in
-    let base : cond (same_recipe r job.recipe) 1 0 + cond (is_among job.recipe rs) 1 0 ≡ 1 + cond (is_among job.recipe rs) 1 0 = ap (λ (k : ℕ). k + cond (is_among job.recipe rs) 1 0) u in
-    omega (arith, base)
+    let u : cond {A = ℕ} (same_recipe r job.recipe) 1 0 ≡ 1 = ap (λ (b : Bool). cond b 1 0) w in
+    omega (arith, u)
 first_or_rest r rs job true false e = omega arith
 
 nothing : (b : Bool) → cond {A = ℕ} (b && false) 1 0 ≡ 0
