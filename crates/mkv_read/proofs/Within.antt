@@ -12,7 +12,7 @@ use Rattle.mkv_elements.specs.declared.TheConstants.{TRACK_ENTRY, CODEC_PRIVATE,
 use Rattle.mkv_read.specs.Plain.{named, Children, HasOne, Block, IsBlock, AreBlocks, IsCluster, AreClusters, IsPlainFile, LiesBefore}
 use Rattle.mkv_read.specs.Reading.{LiesWithin}
 
-abbrev AllLie : ℕ → List Element → Type 0
+abbrev pub AllLie : ℕ → List Element → Type 0
 AllLie limit es = AllByRecursion (LiesWithin limit) es
 
 elements_from-lie : (ps : List Piece) (start limit : ℕ) → start + length (flat_map spelling ps) ≤ limit → AllLie limit (elements_from start ps)
@@ -23,14 +23,14 @@ elements_from-lie (p ∷ ps) start limit h =
     let sizes = length-append p.size_octets p.content in
     (record { content = omega (arith, ids, sizes); within = omega (arith, h, whole) }, elements_from-lie ps (start + length (spelling p)) limit (omega (arith, h, whole)))
 
-Holds-lie : (bytes : List ℕ) (from to : ℕ) (es : List Element) → from ≤ length bytes → Holds bytes from to es → AllLie (length bytes) es
+pub Holds-lie : (bytes : List ℕ) (from to : ℕ) (es : List Element) → from ≤ length bytes → Holds bytes from to es → AllLie (length bytes) es
 Holds-lie bytes from to es le h =
     let long = ap length h.spelled.whole in
     let few = length-take (to - from) (drop from bytes) in
     let rest = length-drop from bytes in
     subst (AllLie (length bytes)) (sym h.placed) (elements_from-lie h.pieces from (length bytes) (omega (arith, le, long, few, rest)))
 
-Children-lie : (bytes : List ℕ) (master : Element) (es : List Element) → LiesWithin (length bytes) master → Children bytes master es → AllLie (length bytes) es
+pub Children-lie : (bytes : List ℕ) (master : Element) (es : List Element) → LiesWithin (length bytes) master → Children bytes master es → AllLie (length bytes) es
 Children-lie bytes master es lies h = Holds-lie bytes master.content master.end es (omega (arith, lies.content, lies.within)) h
 
 named-lie : (id limit : ℕ) (es : List Element) → AllLie limit es → AllLie limit (named id es)
@@ -41,11 +41,11 @@ named-lie id limit (e ∷ es) h = by_test (eqb e.id id) (named-lie id limit es h
     by_test true rest = (h.0, rest)
     by_test false rest = rest
 
-HasOne-lies : (bytes : List ℕ) (master : Element) (id : ℕ) (child : Element) → LiesWithin (length bytes) master → HasOne bytes master id child → LiesWithin (length bytes) child
+pub HasOne-lies : (bytes : List ℕ) (master : Element) (id : ℕ) (child : Element) → LiesWithin (length bytes) master → HasOne bytes master id child → LiesWithin (length bytes) child
 HasOne-lies bytes master id child lies h =
     (subst (AllLie (length bytes)) h.one (named-lie id (length bytes) h.children (Children-lie bytes master h.children lies h.held))).0
 
-back-lie : (limit : ℕ) (before after : List Element) → AllLie limit (before ++ after) → AllLie limit after
+pub back-lie : (limit : ℕ) (before after : List Element) → AllLie limit (before ++ after) → AllLie limit after
 back-lie limit [] after h = h
 back-lie limit (e ∷ before) after h = back-lie limit before after h.1
 
