@@ -1,8 +1,8 @@
 """Bad input: scripts, clips, names and outputs that the program must answer with its named line and status,
 leaving every other file as it was. Beside them stand odd input that it must take.
 
-What a line says of a faulty script or clip is the word `Later` while the program reads plain files and one form of
-script alone: WHY_SCRIPT and WHY_CLIP below.
+What a line says of a faulty script is the word `Later` while the program reads one form of script alone: WHY_SCRIPT
+below.
 """
 
 import shutil
@@ -10,17 +10,20 @@ from pathlib import Path
 from typing import Dict, NamedTuple, Optional, Sequence
 
 import clips
-import variants
+import reader
+from refused import cuts, refused_files
 from report import Report, differs
-from tools import PROGRAM, changed, done, ffmpeg, has_encoder, run, script, sums_of, timeline
+from taken import other_records, taken_files
+from tools import PROGRAM, changed, done, run, script, sums_of, timeline
+from variants import Builder
 from written import written_file
 
 WHY_SCRIPT = "Later"
-WHY_CLIP = "clip Later"
 USAGE = "usage: timeline SCRIPT [--workers N] [--cache N] [--journal N]\n"
 REFUSED = "refused OutsideClip\nrefused EmptyTimeline\n"
 NOT_WRITTEN = "ok 3\nasked 1\nexport 1 sink\n"
 SCRIPT_LIMIT = 16 << 20
+SMALL = 1 << 20
 FRAMES, RATE = 3, 25
 
 
@@ -34,17 +37,17 @@ class Try(NamedTuple):
     words: Sequence[str] = ("s",)
     writes: Optional[str] = None
     under: Sequence[str] = ()
+    export: Optional[bytes] = None  # where it isn't that of the folder's clip
 
 
 class Ground:
-    """A folder with a script that works, a plain clip, an old export and a file that has nothing to do with them."""
+    """A folder with a script that works, its clip, an old export and a file that has nothing to do with them."""
 
     def __init__(self, work: Path):
         self.folder = work / "bad"
         clip = clips.Clip("128x96", "yuv420p", clips.RANGE, 4, 1, FRAMES, ())
         self.clip = clips.make(clip, work / "bad-clip")
         self.data = (work / "bad-clip" / "a.mkv").read_bytes()
-        self.from_ffmpeg = (work / "bad-clip" / "source.mkv").read_bytes()
         self.export = self.written(RATE)
         self.files = {
             "s": script(length=FRAMES, rate=RATE),
@@ -54,8 +57,9 @@ class Ground:
             "sub/a.mkv": self.data,
         }
 
-    def written(self, rate: int) -> bytes:
-        return written_file(self.clip.record, self.clip.width, self.clip.height, rate, self.clip.packets())
+    def written(self, rate: int, record: Optional[bytes] = None) -> bytes:
+        clip = self.clip
+        return written_file(record or clip.record, clip.width, clip.height, rate, clip.packets())
 
     def lay(self, files: Dict[str, bytes]):
         shutil.rmtree(self.folder, ignore_errors=True)
@@ -76,7 +80,7 @@ class Ground:
         faults.append(changed(before, after, [it.writes] if it.writes else []))
         if it.writes:
             path = self.folder / it.writes
-            is_right = path.is_file() and path.read_bytes() == self.export
+            is_right = path.is_file() and path.read_bytes() == (it.export or self.export)
             faults.append("" if is_right else f"{it.writes} isn't the right export")
         report.check(it.name, faults)
 
@@ -159,24 +163,30 @@ def names():
 
 
 def clip_files(ground: Ground):
-    later = f"fault line 2 {WHY_CLIP}\n"
-    for name, data in variants.plain_files(ground.clip).items():
-        yield Try(f"plain clip: {name}", done(FRAMES), 0, {"a.mkv": data}, writes="o.mkv")
-    for name, data in {**variants.other_files(ground.clip), **variants.cuts(ground.data)}.items():
-        yield Try(f"clip: {name}", later, 3, {"a.mkv": data})
-    if ground.clip.codec_id == b"V_MS/VFW/FOURCC":  # as ffmpeg 5.1 writes it; later ones may write plain files
-        yield Try("clip: straight from ffmpeg", later, 3, {"a.mkv": ground.from_ffmpeg})
-    yield Try("clip: an export of the program", later, 3, {"a.mkv": ground.export})
+    for name, data in taken_files(ground.clip).items():
+        yield Try(f"clip taken: {name}", done(FRAMES), 0, {"a.mkv": data}, writes="o.mkv")
+    yield Try("clip taken: an export of the program", done(FRAMES), 0, {"a.mkv": ground.export}, writes="o.mkv")
+    for name, (data, record) in other_records(ground.clip).items():
+        export = ground.written(RATE, record)
+        yield Try(f"clip taken: {name}", done(FRAMES), 0, {"a.mkv": data}, writes="o.mkv", export=export)
+    for kind, files in refused_clips(ground).items():
+        for name, data in files.items():
+            yield Try(f"clip {kind}: {name}", f"fault line 2 clip {kind}\n", 3, {"a.mkv": data})
 
 
-def other_codec(report: Report, ground: Ground, work: Path):
-    """A clip of another codec, where this ffmpeg can make one."""
-    encoder = next((it for it in ("libx264", "mpeg4") if has_encoder(it)), None)
-    if encoder:
-        file = work / "bad-clip" / f"{encoder}.mkv"
-        ffmpeg(["-f", "lavfi", "-i", "testsrc2=size=64x48", "-frames:v", 3, "-c:v", encoder, "-threads", 1, file], work)
-        files = {"a.mkv": file.read_bytes()}
-        ground.attempt(report, Try(f"clip: coded by {encoder}", f"fault line 2 {WHY_CLIP}\n", 3, files))
+def refused_clips(ground: Ground) -> Dict[str, Dict[str, bytes]]:
+    files = refused_files(ground.clip)
+    return {**files, "Ebml": {**files["Ebml"], **cuts(Builder(ground.clip).file())}}
+
+
+def check_reader(report: Report, ground: Ground):
+    """The reader of this folder, which stands beside the tables: both say the same of each small file."""
+    wanted = [(name, data, "taken") for name, data in taken_files(ground.clip).items()]
+    for kind, files in refused_clips(ground).items():
+        wanted += [(name, data, kind) for name, data in files.items()]
+    small = [it for it in wanted if len(it[1]) < SMALL]
+    faults = [differs(name, reader.answer(data), kind) for name, data, kind in small]
+    report.check(f"the reader of this folder, over {len(small)} clips", faults)
 
 
 def full_disk(report: Report, ground: Ground):
@@ -206,6 +216,6 @@ def check_bad_input(report: Report, work: Path):
     ground = Ground(work)
     for it in (*scripts(), *words(), *names(), *clip_files(ground)):
         ground.attempt(report, it)
-    other_codec(report, ground, work)
+    check_reader(report, ground)
     full_disk(report, ground)
     full_output(report, ground)

@@ -7,18 +7,20 @@ from pathlib import Path
 
 from bad import check_bad_input
 from demo import check_demo
+from each_byte import check_each_byte
 from good import check_clips
 from ids import check_ids
-from remade import check_plain
+from real import check_real
 from report import Report
 from tools import HERE
 
 PARTS = {
     "ids": lambda report, work: check_ids(report),
     "demo": check_demo,
-    "plain": check_plain,
     "clips": check_clips,
+    "real": check_real,
     "bad": check_bad_input,
+    "bytes": check_each_byte,
 }
 
 

@@ -4,11 +4,12 @@ from itertools import cycle, product
 from pathlib import Path
 from typing import List, NamedTuple, Tuple
 
-import mkv
-import plain
+import reader
 from tools import ffmpeg
 
 RICE, RANGE = 0, 1
+TEST_PATTERN = "testsrc2=size={size}:rate=25"
+RAMPS = "nullsrc=size={size}:rate=25,geq=lum=40*N+X:cb=128:cr=128"
 RATES = (24, 25, 30, 50, 60, 7, 240, 1)
 
 
@@ -68,10 +69,10 @@ def table() -> List[Clip]:
     return [*small(), *broadcast(), *odd(), *long()]
 
 
-def encode(clip: Clip, target: Path):
-    """Makes the clip from ffmpeg's test pattern, which has even sizes only: others by scaling."""
+def encode(clip: Clip, target: Path, pattern: str):
+    """Makes the clip from a source of ffmpeg's; those have even sizes only, others come by scaling."""
     width, height = map(int, clip.size.split("x"))
-    source = f"testsrc2=size={width + width % 2}x{height + height % 2}:rate=25"
+    source = pattern.format(size=f"{width + width % 2}x{height + height % 2}")
     ran = ffmpeg(
         ["-f", "lavfi", "-i", source, "-frames:v", clip.frames, "-vf", f"scale={width}:{height}", "-pix_fmt", clip.pix_fmt]
         + ["-c:v", "ffv1", "-level", 3, "-g", 1, "-coder", clip.coder, "-slices", clip.slices, "-slicecrc", clip.slicecrc]
@@ -82,10 +83,8 @@ def encode(clip: Clip, target: Path):
         raise RuntimeError(f"ffmpeg made no clip: {ran.err.strip()}")
 
 
-def make(clip: Clip, folder: Path) -> mkv.Clip:
-    """Makes `source.mkv` by ffmpeg and `a.mkv` of it, a plain file, and answers what the source has."""
+def make(clip: Clip, folder: Path, pattern=TEST_PATTERN) -> reader.Clip:
+    """Makes `a.mkv` in a new folder, straight by ffmpeg, and answers what it has."""
     folder.mkdir(parents=True)
-    source = folder / "source.mkv"
-    encode(clip, source)
-    plain.make_plain(source, folder / "a.mkv")
-    return mkv.read_clip(mkv.view_of(source))
+    encode(clip, folder / "a.mkv", pattern)
+    return reader.read_clip(reader.view_of(folder / "a.mkv"))

@@ -3,7 +3,7 @@
 import shutil
 from pathlib import Path
 
-import mkv
+import reader
 from report import Report, differs
 from tools import HERE, changed, done, frames_of, sums_of, timeline
 
@@ -29,8 +29,8 @@ def check_demo(report: Report, work: Path):
     if not (folder / EXPORT).exists():
         report.check("demo: the export", "there is none")
         return
-    packets = mkv.read_clip(mkv.view_of(folder / CLIP)).packets()
-    is_cut = mkv.read_clip(mkv.view_of(folder / EXPORT)).packets() == packets[:length]
+    packets = reader.read_clip(reader.view_of(folder / CLIP)).packets()
+    is_cut = reader.read_clip(reader.view_of(folder / EXPORT)).packets() == packets[:length]
     report.check("demo: packets", "" if is_cut else "they aren't the clip's")
     clip, export = frames_of(CLIP, folder), frames_of(EXPORT, folder)
     report.check("demo: ffmpeg's pictures", [differs("the hashes", export.pictures, clip.pictures[:length]), export.said])

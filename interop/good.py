@@ -1,10 +1,12 @@
 """Cuts real clips with the program, and looks at each export from outside."""
 
+import hashlib
 from pathlib import Path
 from typing import List
 
 import clips
-import mkv
+import reader
+from mkv import KEY, Id
 from report import Report, differs
 from tools import Frames, changed, done, ffmpeg, frames_of, hashes_in, mkvinfo, script, sums_of, timeline
 from written import block_time, written_file
@@ -12,24 +14,22 @@ from written import block_time, written_file
 
 def cue_faults(data) -> List[str]:
     """The Cues name each Cluster's place and time, counted from the Segment's content (RFC 9559 section 5.1.5.1)."""
-    segment = mkv.segment_of(data)
-    found = {
-        it.at - segment.start: mkv.number_in(data, mkv.first(data, it, mkv.Id.TIMESTAMP))
-        for it in mkv.children(data, segment)
-        if it.id == mkv.Id.CLUSTER
-    }
-    cues = mkv.first(data, segment, mkv.Id.CUES)
+    number = lambda children, name: reader.number_of(data, reader.first(children, name))
+    below = lambda children, name: reader.children_of(data, reader.first(children, name))
+    segment = reader.first(reader.elements(data, 0, len(data), reader.FILE)[0], Id.SEGMENT)
+    clusters = reader.of_id(segment.children, Id.CLUSTER)
+    found = {it.at - segment.start: number(it.children, Id.TIMESTAMP) for it in clusters}
     named = {}
-    for point in mkv.children(data, cues) if cues else ():
-        positions = mkv.first(data, point, mkv.Id.CUE_TRACK_POSITIONS)
-        place = mkv.number_in(data, mkv.first(data, positions, mkv.Id.CUE_CLUSTER_POSITION))
-        named[place] = mkv.number_in(data, mkv.first(data, point, mkv.Id.CUE_TIME))
+    for it in below(segment.children, Id.CUES):
+        point = reader.children_of(data, it)
+        place = number(below(point, Id.CUE_TRACK_POSITIONS), Id.CUE_CLUSTER_POSITION)
+        named[place] = number(point, Id.CUE_TIME)
     return [differs("the Cues", named, found)]
 
 
-def read_faults(data, source: mkv.Clip, length: int, rate: int) -> List[str]:
+def read_faults(data, source: reader.Clip, length: int, rate: int) -> List[str]:
     """What the reader of this folder finds in an export."""
-    clip = mkv.read_clip(data)
+    clip = reader.read_clip(data)
     wanted = [block_time(frame, rate) for frame in range(length)]
     return [
         differs("the CodecID", clip.codec_id, b"V_FFV1"),
@@ -37,11 +37,11 @@ def read_faults(data, source: mkv.Clip, length: int, rate: int) -> List[str]:
         differs("the size", (clip.width, clip.height), (source.width, source.height)),
         differs("the block times", [it.time for it in clip.blocks], wanted),
         "" if clip.packets() == source.packets()[:length] else "the packets aren't the source's",
-        "" if all(it.is_key for it in clip.blocks) else "a block isn't a key frame",
+        "" if all(it.flags == KEY for it in clip.blocks) else "a block's flags aren't those of a key frame",
     ]
 
 
-def check_cut(report: Report, name: str, folder: Path, source: mkv.Clip, frames: Frames, length: int, rate: int):
+def check_cut(report: Report, name: str, folder: Path, source: reader.Clip, frames: Frames, length: int, rate: int):
     """Makes one cut of the folder's clip `a.mkv` and checks it."""
     (folder / "s").write_bytes(script(length=length, rate=rate))
     before = sums_of(folder)
@@ -52,13 +52,13 @@ def check_cut(report: Report, name: str, folder: Path, source: mkv.Clip, frames:
     if not (folder / "o.mkv").exists():
         report.check(f"{name}: the export", "there is none")
         return
-    data = mkv.view_of(folder / "o.mkv")
+    data = reader.view_of(folder / "o.mkv")
     wanted = written_file(source.record, source.width, source.height, rate, source.packets()[:length])
     report.check(f"{name}: each byte", "" if bytes(data) == wanted else "the file isn't the one of docs/FORMATS.md")
     try:
         report.check(f"{name}: record, size, times and packets", read_faults(data, source, length, rate))
         report.check(f"{name}: cues", cue_faults(data))
-    except mkv.Fault as fault:
+    except reader.Refused as fault:
         report.check(f"{name}: reading", str(fault))
     check_tools(report, name, folder, frames, length, rate)
 
@@ -85,22 +85,22 @@ def check_seek(report: Report, name: str, folder: Path, frames: Frames, second: 
     report.check(f"{name}: ffmpeg seeks to second {second}", [ran.err.strip(), differs("the frame", found, wanted)])
 
 
+def packet_faults(source: reader.Clip, frames: Frames) -> str:
+    """What differs between the packets that the reader of this folder takes from a clip and those that ffmpeg takes."""
+    sums = [(str(len(it)), hashlib.md5(it).hexdigest()) for it in source.packets()]
+    return differs("the packets", frames.packets, sums)
+
+
 def check_clip(report: Report, clip: clips.Clip, work: Path):
     folder = work / clip.name()
     try:
         source = clips.make(clip, folder)
-    except (RuntimeError, mkv.Fault) as fault:
+    except (RuntimeError, reader.Refused) as fault:
         report.check(f"{clip.name()}: made", str(fault))
         return
-    frames, plain = frames_of("source.mkv", folder), frames_of("a.mkv", folder)
-    report.check(
-        f"{clip.name()}: made plain",
-        [
-            differs("the number of frames", len(frames.pictures), clip.frames),
-            differs("the plain file", plain, frames._replace(said="")),
-            mkvinfo("a.mkv", folder).warnings,
-        ],
-    )
+    frames = frames_of("a.mkv", folder)
+    is_made = differs("the number of frames", len(frames.pictures), clip.frames)
+    report.check(f"{clip.name()}: made", [is_made, packet_faults(source, frames)])
     for length, rate in clip.cuts:
         check_cut(report, f"{clip.name()}, {length} at {rate}", folder, source, frames, length, rate)
         if length > rate > 1:

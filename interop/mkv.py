@@ -1,15 +1,11 @@
-"""Matroska as the scripts here need it: the elements of a file, its FFV1 clip, and a clip written as a plain file.
+"""Matroska as the scripts here write it: the ids of elements, and elements and small files built of them.
 
 Elements are RFC 8794's, their meanings RFC 9559's. Independent of the program: nothing here is taken from it.
+An element is a list of pieces, so that packets are never copied.
 """
 
-import mmap
 from enum import IntEnum
-from typing import Iterable, Iterator, List, NamedTuple, Optional
-
-
-class Fault(Exception):
-    """A file that can't be read; the message says why."""
+from typing import Iterable, List, Tuple
 
 
 class Id(IntEnum):
@@ -45,6 +41,10 @@ class Id(IntEnum):
     CODEC_ID = 0x86
     CODEC_PRIVATE = 0x63A2
     CONTENT_ENCODINGS = 0x6D80
+    CONTENT_ENCODING = 0x6240
+    CONTENT_COMPRESSION = 0x5034
+    CONTENT_COMP_ALGO = 0x4254
+    CONTENT_COMP_SETTINGS = 0x4255
     VIDEO = 0xE0
     PIXEL_WIDTH = 0xB0
     PIXEL_HEIGHT = 0xBA
@@ -66,213 +66,10 @@ TOP_LEVEL = frozenset(
 )
 
 VIDEO_TRACK = 1
+AUDIO_TRACK = 2
 KEY, LACING = 0x80, 0x06
 FRAMES_A_CLUSTER = 25
 MILLISECOND = 1_000_000
-
-
-# Reading
-
-
-class Element(NamedTuple):
-    """An element: its id, the place of its first byte, and where its content starts and ends."""
-
-    id: int
-    at: int
-    start: int
-    end: int
-
-
-class Block(NamedTuple):
-    """A block of the clip's track: its time in units of the file's scale, whether it is a key frame, its packet."""
-
-    time: int
-    is_key: bool
-    packet: memoryview
-
-
-class Clip(NamedTuple):
-    """An FFV1 track and its blocks, in file order."""
-
-    codec_id: bytes
-    record: bytes
-    width: int
-    height: int
-    scale: int
-    blocks: List[Block]
-
-    def packets(self) -> List[bytes]:
-        return [bytes(block.packet) for block in self.blocks]
-
-
-def view_of(path) -> memoryview:
-    """The file's bytes, without reading them into memory."""
-    with open(path, "rb") as file:
-        if file.seek(0, 2) == 0:
-            return memoryview(b"")
-        return memoryview(mmap.mmap(file.fileno(), 0, access=mmap.ACCESS_READ))
-
-
-def vint_length(data, at, end, most) -> int:
-    """The length of the id or size at a place, as the first 1 bit of its first byte tells it."""
-    length = 9 - data[at].bit_length() if at < end else 0
-    if not 1 <= length <= most or at + length > end:
-        raise Fault(f"bad id or size at {at}")
-    return length
-
-
-def read_id(data, at, end):
-    """The id at a place, with its marker, and the place after it."""
-    after = at + vint_length(data, at, end, 4)
-    return int.from_bytes(data[at:after], "big"), after
-
-
-def read_size(data, at, end):
-    """The size at a place, None where it is unknown, and the place after it."""
-    length = vint_length(data, at, end, 8)
-    after = at + length
-    value = int.from_bytes(data[at:after], "big") - (1 << 7 * length)
-    return None if value == (1 << 7 * length) - 1 else value, after
-
-
-def cluster_end(data, start, end) -> int:
-    """Where a Cluster of unknown size ends (RFC 8794 section 6.2)."""
-    at = start
-    while at < end:
-        element_id, after = read_id(data, at, end)
-        if element_id in TOP_LEVEL:
-            break
-        size, after = read_size(data, after, end)
-        if size is None:
-            raise Fault(f"unknown size at {at}")
-        at = after + size
-    return min(at, end)
-
-
-def elements(data, start, end) -> Iterator[Element]:
-    """The elements between two places. Only a Segment or a Cluster may have an unknown size."""
-    at = start
-    while at < end:
-        element_id, after = read_id(data, at, end)
-        size, after = read_size(data, after, end)
-        if size is not None:
-            stop = after + size
-        elif element_id == Id.SEGMENT:
-            stop = end
-        elif element_id == Id.CLUSTER:
-            stop = cluster_end(data, after, end)
-        else:
-            raise Fault(f"unknown size at {at}")
-        if stop > end:
-            raise Fault(f"the element at {at} passes the end of its parent")
-        yield Element(element_id, at, after, stop)
-        at = stop
-
-
-def children(data, parent: Element) -> Iterator[Element]:
-    return elements(data, parent.start, parent.end)
-
-
-def first(data, parent: Optional[Element], element_id) -> Optional[Element]:
-    """The first child of that id, or None; None also where there is no parent."""
-    found = children(data, parent) if parent else ()
-    return next((it for it in found if it.id == element_id), None)
-
-
-def number_in(data, element: Optional[Element], missing=0) -> int:
-    return int.from_bytes(data[element.start : element.end], "big") if element else missing
-
-
-def bytes_in(data, element: Optional[Element]) -> bytes:
-    return bytes(data[element.start : element.end]) if element else b""
-
-
-def segment_of(data) -> Element:
-    for it in elements(data, 0, len(data)):
-        if it.id == Id.SEGMENT:
-            return it
-    raise Fault("there is no Segment")
-
-
-def record_in(codec_id: bytes, private: bytes) -> Optional[bytes]:
-    """The FFV1 configuration record of a track, or None where the track isn't FFV1.
-
-    `V_MS/VFW/FOURCC` has it after the 40 bytes of a bitmap header, whose first number counts both.
-    """
-    if codec_id == b"V_FFV1":
-        return private
-    if codec_id == b"V_MS/VFW/FOURCC" and len(private) >= 40 and private[16:20] == b"FFV1":
-        size = int.from_bytes(private[:4], "little")
-        return private[40 : size if size > 40 else None]
-    return None
-
-
-def ffv1_track(data, segment: Element):
-    """The first FFV1 video track: its number and entry, codec id and record."""
-    tracks = first(data, segment, Id.TRACKS)
-    for entry in children(data, tracks) if tracks else ():
-        if entry.id != Id.TRACK_ENTRY or number_in(data, first(data, entry, Id.TRACK_TYPE)) != VIDEO_TRACK:
-            continue
-        codec_id = bytes_in(data, first(data, entry, Id.CODEC_ID)).split(b"\0")[0]
-        record = record_in(codec_id, bytes_in(data, first(data, entry, Id.CODEC_PRIVATE)))
-        if record is None:
-            continue
-        if first(data, entry, Id.CONTENT_ENCODINGS):
-            raise Fault("the track is compressed or encrypted by the container")
-        return number_in(data, first(data, entry, Id.TRACK_NUMBER)), entry, codec_id, record
-    raise Fault("there is no FFV1 track")
-
-
-def block_parts(data, element: Element, cluster_time: int):
-    """A block's track number, time, flags and packet (RFC 9559 section 10.1)."""
-    track, at = read_size(data, element.start, element.end)
-    if at + 3 > element.end:
-        raise Fault(f"the block at {element.at} is too short")
-    time = cluster_time + int.from_bytes(data[at : at + 2], "big", signed=True)
-    return track, time, data[at + 2], data[at + 3 : element.end]
-
-
-def cluster_blocks(data, cluster: Element, number: int) -> Iterator[Block]:
-    """A Cluster's blocks of one track."""
-    cluster_time = number_in(data, first(data, cluster, Id.TIMESTAMP))
-    for it in children(data, cluster):
-        element, is_key = it, None
-        if it.id == Id.BLOCK_GROUP:
-            element, is_key = first(data, it, Id.BLOCK), first(data, it, Id.REFERENCE_BLOCK) is None
-        elif it.id != Id.SIMPLE_BLOCK:
-            continue
-        if element is None:
-            raise Fault(f"the BlockGroup at {it.at} has no Block")
-        track, time, flags, packet = block_parts(data, element, cluster_time)
-        if track != number:
-            continue
-        if flags & LACING:
-            raise Fault(f"the block at {it.at} is laced")
-        yield Block(time, bool(flags & KEY) if is_key is None else is_key, packet)
-
-
-def read_clip(data) -> Clip:
-    """The file's first FFV1 track, with its blocks. Packets are views into the data."""
-    segment = segment_of(data)
-    number, entry, codec_id, record = ffv1_track(data, segment)
-    video = first(data, entry, Id.VIDEO)
-    blocks = [
-        block
-        for cluster in children(data, segment)
-        if cluster.id == Id.CLUSTER
-        for block in cluster_blocks(data, cluster, number)
-    ]
-    return Clip(
-        codec_id,
-        record,
-        number_in(data, first(data, video, Id.PIXEL_WIDTH)),
-        number_in(data, first(data, video, Id.PIXEL_HEIGHT)),
-        number_in(data, first(data, first(data, segment, Id.INFO), Id.TIMESTAMP_SCALE), MILLISECOND),
-        blocks,
-    )
-
-
-# Writing: an element is a list of pieces, so that packets are never copied.
 
 Pieces = List[bytes]
 
@@ -335,7 +132,7 @@ def video(width: int, height: int) -> Pieces:
     return master(Id.VIDEO, unsigned(Id.PIXEL_WIDTH, width), unsigned(Id.PIXEL_HEIGHT, height))
 
 
-def track_entry(record: bytes, width: int, height: int) -> Pieces:
+def track_entry(record: bytes, width: int, height: int, *more: Pieces) -> Pieces:
     return master(
         Id.TRACK_ENTRY,
         unsigned(Id.TRACK_NUMBER, 1),
@@ -344,36 +141,22 @@ def track_entry(record: bytes, width: int, height: int) -> Pieces:
         element(Id.CODEC_ID, [b"V_FFV1"]),
         element(Id.CODEC_PRIVATE, [record]),
         video(width, height),
+        *more,
     )
 
 
-def cluster(blocks: List[Block]) -> Pieces:
-    """A Cluster whose Timestamp is its first block's time."""
-    start = blocks[0].time
-    return master(
-        Id.CLUSTER,
-        unsigned(Id.TIMESTAMP, start),
-        *(simple_block(1, it.time - start, it.packet, KEY if it.is_key else 0) for it in blocks),
-    )
+def cluster(start: int, frames: Iterable[Tuple[int, bytes]]) -> Pieces:
+    """A Cluster of track 1 with that Timestamp, over frames with their times."""
+    blocks = (simple_block(1, time - start, packet) for time, packet in frames)
+    return master(Id.CLUSTER, unsigned(Id.TIMESTAMP, start), *blocks)
 
 
-def in_clusters(blocks: List[Block]) -> Iterator[List[Block]]:
-    """Cuts blocks into Clusters of 25, or fewer where a time would not fit a block's 16 bits."""
-    kept: List[Block] = []
-    for it in blocks:
-        if len(kept) == FRAMES_A_CLUSTER or (kept and it.time - kept[0].time > 0x7FFF):
-            yield kept
-            kept = []
-        kept.append(it)
-    if kept:
-        yield kept
-
-
-def plain(clip: Clip) -> Pieces:
-    """The clip as a plain file: sizes all known, one V_FFV1 track, SimpleBlocks only, Tracks before the Clusters."""
+def clip_file(record: bytes, width: int, height: int, frames: List[Tuple[int, bytes]], a_cluster: int) -> Pieces:
+    """A file with one V_FFV1 track and so many frames a Cluster, all sizes known, without Cues."""
+    parts = [frames[start : start + a_cluster] for start in range(0, len(frames), a_cluster)]
     return ebml_head() + master(
         Id.SEGMENT,
-        info(clip.scale),
-        master(Id.TRACKS, track_entry(clip.record, clip.width, clip.height)),
-        *(cluster(it) for it in in_clusters(clip.blocks)),
+        info(MILLISECOND),
+        master(Id.TRACKS, track_entry(record, width, height)),
+        *(cluster(part[0][0], part) for part in parts),
     )

@@ -9,6 +9,8 @@ from typing import Dict, List, NamedTuple, Tuple
 
 HERE = Path(__file__).resolve().parent
 PROGRAM = os.environ.get("TIMELINE_PROGRAM") or str(HERE.parent / "timeline")
+# The program without its launcher, which looks at all sources before each run.
+BUILT = os.environ.get("TIMELINE_PROGRAM") or str(HERE.parent / "crates" / "timeline_app" / "out" / "timeline_app")
 SECONDS, TIMED_OUT = 60, 124
 
 
@@ -29,12 +31,16 @@ def run(words, folder, stdout=subprocess.PIPE) -> Ran:
     return Ran(ran.returncode, (ran.stdout or b"").decode(errors="replace"), ran.stderr.decode(errors="replace"))
 
 
-def timeline(words, folder, **how) -> Ran:
-    return run([PROGRAM, *words], folder, **how)
+def timeline(words, folder, program=PROGRAM, **how) -> Ran:
+    return run([program, *words], folder, **how)
 
 
 def ffmpeg(words, folder) -> Ran:
     return run(["ffmpeg", "-hide_banner", "-nostdin", "-y", "-v", "warning", *words], folder)
+
+
+def mkvmerge(words, folder) -> Ran:
+    return run(["mkvmerge", "--ui-language", "en_US", "-q", *words], folder)
 
 
 def has_encoder(name: str) -> bool:
@@ -55,10 +61,10 @@ def hashes_in(path: Path) -> List[Tuple[str, str]]:
     return [(row[-2].strip(), row[-1].strip()) for row in rows]
 
 
-def frames_of(file: str, folder: Path) -> Frames:
+def frames_of(file: str, folder: Path, stream="0:v:0") -> Frames:
     packets, pictures = folder / f"{file}.packets", folder / f"{file}.pictures"
-    copied = ["-map", "0:v:0", "-c", "copy", "-f", "framemd5", packets]
-    decoded = ["-map", "0:v:0", "-fps_mode", "passthrough", "-f", "framemd5", pictures]
+    copied = ["-map", stream, "-c", "copy", "-f", "framemd5", packets]
+    decoded = ["-map", stream, "-fps_mode", "passthrough", "-f", "framemd5", pictures]
     ran = ffmpeg(["-i", file, *copied, *decoded], folder)
     said = ran.err.strip() or (f"ffmpeg ended with status {ran.status}" if ran.status else "")
     found = [hashes_in(it) if it.exists() else [] for it in (packets, pictures)]

@@ -9,10 +9,10 @@ use Rattle.ebml_core.specs.declared.vint.VintFault.{VintFault}
 use Rattle.ebml_core.specs.Reading.{size_at}
 use Rattle.ebml_core.proofs.Numbers.{AreBytes, AreBytes-take, AreBytes-drop}
 use Rattle.ebml_core.proofs.Headers.{size_at-takes, size_at-again}
-use Rattle.mkv_read.specs.declared.clip.TheConstants.{MAX_FRAMES}
 use Rattle.mkv_read.specs.Plain.{content_of, Block, signed_plus_32768, IsBlock, AreBlocks, NeverFall}
 use Rattle.mkv_read.specs.Reading.{◌>>=◌, framed, of_track, block_at, Taken, take_block}
 use Rattle.mkv_read.proofs.Elements.{bind_some, some, some_is, guard_some}
+use Rattle.mkv_read.specs.Limits.{max_frames}
 
 -- ---- one block
 
@@ -103,7 +103,7 @@ pub record TakesBlocks (P : List Block → Type 0) (taken more : Taken) : Type 0
   pub blocks : List Block
   pub are : P blocks
   pub falls : NeverFall taken.last blocks
-  pub few : length taken.packets + length blocks ≤ MAX_FRAMES
+  pub few : length taken.packets + length blocks ≤ max_frames
   pub is : after_blocks taken blocks ≡ more
 
 -- each of some elements, taken by a step
@@ -115,29 +115,29 @@ pub record TakesBlock (bytes : List ℕ) (number timestamp : ℕ) (e : Element) 
   pub one : Block
   pub is_block : IsBlock bytes number timestamp e one
   pub falls : taken.last ≤ one.time
-  pub few : length taken.packets < MAX_FRAMES
+  pub few : length taken.packets < max_frames
   pub is : after_block taken one ≡ more
 
 take_block-takes : (bytes : List ℕ) (number timestamp : ℕ) (e : Element) (taken more : Taken) → AreBytes bytes → take_block bytes number timestamp e taken ≡ Some more → TakesBlock bytes number timestamp e taken more
 unfolding take_block
 take_block-takes bytes number timestamp e taken more fits h =
     let a = bind_some (block_at number timestamp e.content (content_of bytes e)) _ more h in
-    let g = guard_some (ltb a.0.time taken.last || leb MAX_FRAMES (length taken.packets)) (Some (after_block taken a.0)) more a.2 in
-    let parts = or_parts (ltb a.0.time taken.last) (leb MAX_FRAMES (length taken.packets)) g.0 in
+    let g = guard_some (ltb a.0.time taken.last || leb max_frames (length taken.packets)) (Some (after_block taken a.0)) more a.2 in
+    let parts = or_parts (ltb a.0.time taken.last) (leb max_frames (length taken.packets)) g.0 in
     record {
       one = a.0;
       is_block = block_at-IsBlock bytes number timestamp e a.0 fits a.1;
       falls = ltb-false a.0.time taken.last parts.0;
-      few = leb-false MAX_FRAMES (length taken.packets) parts.1;
+      few = leb-false max_frames (length taken.packets) parts.1;
       is = some_is (after_block taken a.0) more g.1;
     }
 
-take_block-again : (bytes : List ℕ) (number timestamp : ℕ) (e : Element) (b : Block) (taken : Taken) → IsBlock bytes number timestamp e b → taken.last ≤ b.time → length taken.packets < MAX_FRAMES → take_block bytes number timestamp e taken ≡ Some (after_block taken b)
+take_block-again : (bytes : List ℕ) (number timestamp : ℕ) (e : Element) (b : Block) (taken : Taken) → IsBlock bytes number timestamp e b → taken.last ≤ b.time → length taken.packets < max_frames → take_block bytes number timestamp e taken ≡ Some (after_block taken b)
 unfolding take_block
 take_block-again bytes number timestamp e b taken is falls few =
-    rw (IsBlock-block_at bytes number timestamp e b is, or_from (ltb b.time taken.last) (leb MAX_FRAMES (length taken.packets)) (le-ltb b.time taken.last falls) (lt-leb MAX_FRAMES (length taken.packets) few)) refl
+    rw (IsBlock-block_at bytes number timestamp e b is, or_from (ltb b.time taken.last) (leb max_frames (length taken.packets)) (le-ltb b.time taken.last falls) (lt-leb max_frames (length taken.packets) few)) refl
 
-pub take_all-blocks : (bytes : List ℕ) (number timestamp : ℕ) (es : List Element) (taken more : Taken) → AreBytes bytes → length taken.packets ≤ MAX_FRAMES → take_all (take_block bytes number timestamp) es taken ≡ Some more → TakesBlocks (AreBlocks bytes number timestamp es) taken more
+pub take_all-blocks : (bytes : List ℕ) (number timestamp : ℕ) (es : List Element) (taken more : Taken) → AreBytes bytes → length taken.packets ≤ max_frames → take_all (take_block bytes number timestamp) es taken ≡ Some more → TakesBlocks (AreBlocks bytes number timestamp es) taken more
 take_all-blocks bytes number timestamp [] taken more fits few h =
     record { blocks = []; are = refl; falls = tt; few = omega (arith, few); is = some_is taken more h }
 take_all-blocks bytes number timestamp (e ∷ es) taken more fits few h =
@@ -147,7 +147,7 @@ take_all-blocks bytes number timestamp (e ∷ es) taken more fits few h =
     let rest = take_all-blocks bytes number timestamp es (after_block taken one.one) more fits (omega (arith, len, one.few)) (ap (take_all (take_block bytes number timestamp) es) one.is ∙ a.2) in
     record { blocks = one.one ∷ rest.blocks; are = (one.is_block, rest.are); falls = (one.falls, rest.falls); few = omega (arith, len, rest.few); is = rest.is }
 
-pub blocks-take_all : (bytes : List ℕ) (number timestamp : ℕ) (es : List Element) (bs : List Block) (taken : Taken) → AreBlocks bytes number timestamp es bs → NeverFall taken.last bs → length taken.packets + length bs ≤ MAX_FRAMES → take_all (take_block bytes number timestamp) es taken ≡ Some (after_blocks taken bs)
+pub blocks-take_all : (bytes : List ℕ) (number timestamp : ℕ) (es : List Element) (bs : List Block) (taken : Taken) → AreBlocks bytes number timestamp es bs → NeverFall taken.last bs → length taken.packets + length bs ≤ max_frames → take_all (take_block bytes number timestamp) es taken ≡ Some (after_blocks taken bs)
 blocks-take_all bytes number timestamp [] bs taken are falls few = ap (λ (xs : List Block). Some (after_blocks taken xs)) (sym are)
 blocks-take_all bytes number timestamp (e ∷ es) [] taken are falls few = absurd are
 blocks-take_all bytes number timestamp (e ∷ es) (b ∷ bs) taken are falls few =

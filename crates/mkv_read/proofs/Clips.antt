@@ -8,19 +8,18 @@ use Rattle.mkv_elements.specs.declared.TheConstants.{EBML}
 use Rattle.mkv_elements.specs.declared.table.TheConstants.{FILE}
 use Rattle.mkv_read.specs.declared.clip.Place.{Place}
 use Rattle.mkv_read.specs.declared.clip.ClipIndex.{ClipIndex}
-use Rattle.mkv_read.specs.declared.clip.TheConstants.{MAX_FRAMES}
 use Rattle.mkv_read.specs.declared.block.Block.{Block}
 use Rattle.mkv_read.specs.declared.fault.ClipFault.{ClipFault}
 use Rattle.mkv_read.specs.declared.fault.ClipFault.TheVariants as faults
 use Rattle.mkv_read.specs.declared.fault.Which.TheVariants as limits
 use Rattle.mkv_read.specs.declared.track.Track.{Track}
-use Rattle.mkv_read.specs.declared.visit.TheConstants.{LEVELS}
 use Rattle.mkv_read.specs.Elements.{next_at}
 use Rattle.mkv_read.specs.Faults.{fault_in}
 use Rattle.mkv_read.specs.Blocks.{blocks_in, block_fault, else_fault, fault_after}
 use Rattle.mkv_read.specs.Tracks.{track_of}
 use Rattle.mkv_read.specs.Taking.{Gives, Taken, nothing_taken, counted, kept, taken_after, take, take_all, outcome, finished_as, finished, number_in, read}
 use Rattle.mkv_read.specs.Clip.{segment_of, file_of, is_element, fault_of, is_matroska, packed, clip_with, unless_faulty, require, clip_of}
+use Rattle.mkv_read.specs.Limits.{max_frames, depth}
 
 abbrev packet_of : Block → Place
 packet_of block = block.packet
@@ -36,13 +35,13 @@ take-count b t = by_faults t.fault (block_fault t.last b)
     by_faults None (Some f) = refl
     by_faults None None = refl
 
-one_more : (n m : ℕ) → ltb MAX_FRAMES (counted n + m) ≡ ltb MAX_FRAMES (n + suc m)
+one_more : (n m : ℕ) → ltb max_frames (counted n + m) ≡ ltb max_frames (n + suc m)
 one_more n m = grind (arith, nat_tests)
 
-too_many : (bs : List Block) (t : Taken) → ltb MAX_FRAMES (take_all bs t).count ≡ ltb MAX_FRAMES (t.count + length bs)
+too_many : (bs : List Block) (t : Taken) → ltb max_frames (take_all bs t).count ≡ ltb max_frames (t.count + length bs)
 unfolding take_all
-too_many [] t = ap (ltb MAX_FRAMES) (omega arith)
-too_many (b ∷ bs) t = too_many bs (take b t) ∙ ap (λ (n : ℕ). ltb MAX_FRAMES (n + length bs)) (take-count b t) ∙ one_more t.count (length bs)
+too_many [] t = ap (ltb max_frames) (omega arith)
+too_many (b ∷ bs) t = too_many bs (take b t) ∙ ap (λ (n : ℕ). ltb max_frames (n + length bs)) (take-count b t) ∙ one_more t.count (length bs)
 
 -- ---- the first fault
 
@@ -80,10 +79,10 @@ no_fault_parts : (now later : Option ClipFault) → else_fault now later ≡ Non
 no_fault_parts (Some f) later h = absurd cc
 no_fault_parts None later h = (refl, h)
 
-kept_room : (packets : List Place) (packet : Place) → length packets < MAX_FRAMES → kept packets packet ≡ packets ++ packet ∷ []
+kept_room : (packets : List Place) (packet : Place) → length packets < max_frames → kept packets packet ≡ packets ++ packet ∷ []
 kept_room packets packet room = grind (arith, nat_tests, room)
 
-packets_of_taken : (bs : List Block) (t : Taken) → t.fault ≡ None → fault_after t.last bs ≡ None → length t.packets + length bs ≤ MAX_FRAMES → (take_all bs t).packets ≡ t.packets ++ map packet_of bs
+packets_of_taken : (bs : List Block) (t : Taken) → t.fault ≡ None → fault_after t.last bs ≡ None → length t.packets + length bs ≤ max_frames → (take_all bs t).packets ≡ t.packets ++ map packet_of bs
 unfolding take_all fault_after
 packets_of_taken [] t sound none few = sym (append-nil t.packets)
 packets_of_taken (b ∷ bs) t sound none few =
@@ -101,16 +100,16 @@ as_packed track t (b ∷ bs) = refl
 
 finished-taken : (track : Track) (bs : List Block) → finished track (take_all bs nothing_taken) ≡ clip_with track bs
 unfolding clip_with
-finished-taken track bs = by_many (ltb MAX_FRAMES (length bs)) refl
+finished-taken track bs = by_many (ltb max_frames (length bs)) refl
   where
-    by_fault : (now : Option ClipFault) → fault_after 0 bs ≡ now → ltb MAX_FRAMES (length bs) ≡ false → finished_as track (take_all bs nothing_taken) (take_all bs nothing_taken).fault (take_all bs nothing_taken).packets ≡ packed track bs now
+    by_fault : (now : Option ClipFault) → fault_after 0 bs ≡ now → ltb max_frames (length bs) ≡ false → finished_as track (take_all bs nothing_taken) (take_all bs nothing_taken).fault (take_all bs nothing_taken).packets ≡ packed track bs now
     by_fault (Some f) is few = rw (fault_of_taken bs nothing_taken refl ∙ is) refl
     by_fault None is few =
-        rw (fault_of_taken bs nothing_taken refl ∙ is, packets_of_taken bs nothing_taken refl is (omega (arith, ltb-false MAX_FRAMES (length bs) few))) (as_packed track (take_all bs nothing_taken) bs)
+        rw (fault_of_taken bs nothing_taken refl ∙ is, packets_of_taken bs nothing_taken refl is (omega (arith, ltb-false max_frames (length bs) few))) (as_packed track (take_all bs nothing_taken) bs)
 
-    by_many : (many : Bool) → ltb MAX_FRAMES (length bs) ≡ many → finished track (take_all bs nothing_taken) ≡ cond (ltb MAX_FRAMES (length bs)) (Err (faults.Limit limits.Frames)) (packed track bs (fault_after 0 bs))
-    by_many true is = rw (too_many bs nothing_taken ∙ ap (ltb MAX_FRAMES) (omega arith) ∙ is, is) refl
-    by_many false is = rw (too_many bs nothing_taken ∙ ap (ltb MAX_FRAMES) (omega arith) ∙ is, is) (by_fault (fault_after 0 bs) refl is)
+    by_many : (many : Bool) → ltb max_frames (length bs) ≡ many → finished track (take_all bs nothing_taken) ≡ cond (ltb max_frames (length bs)) (Err (faults.Limit limits.Frames)) (packed track bs (fault_after 0 bs))
+    by_many true is = rw (too_many bs nothing_taken ∙ ap (ltb max_frames) (omega arith) ∙ is, is) refl
+    by_many false is = rw (too_many bs nothing_taken ∙ ap (ltb max_frames) (omega arith) ∙ is, is) (by_fault (fault_after 0 bs) refl is)
 
 same_reading : (header matroska : Bool) (fault : Option ℕ) (track : Result Track ClipFault) (blocks : Option ℕ → List Block)
     → cond header (outcome fault (blocks (number_in track)) nothing_taken >>= λ taken. require matroska faults.DocType >>= λ m. track >>= λ t. finished t taken) (Err (faults.Ebml 0))
@@ -124,7 +123,7 @@ same_reading true true None (Ok t) blocks = finished-taken t (blocks (Some t.num
 pub read-clip : (bytes : List ℕ) → read bytes ≡ clip_of bytes
 unfolding read clip_of fault_of
 read-clip bytes =
-    same_reading (is_element EBML (next_at bytes 0 (length bytes))) (is_matroska bytes) (fault_in LEVELS bytes FILE (file_of bytes)) (track_of bytes (segment_of bytes)) (λ number. blocks_in LEVELS bytes number FILE 0 (file_of bytes))
+    same_reading (is_element EBML (next_at bytes 0 (length bytes))) (is_matroska bytes) (fault_in depth bytes FILE (file_of bytes)) (track_of bytes (segment_of bytes)) (λ number. blocks_in depth bytes number FILE 0 (file_of bytes))
 
 pub read_gives : (bytes : List ℕ) (r : Result ClipIndex ClipFault) → Gives (λ clip. clip) r (read bytes) → Gives (λ clip. clip) r (clip_of bytes)
 read_gives bytes r gives = subst (λ (x : Result ClipIndex ClipFault). Gives (λ (clip : ClipIndex). clip) r x) (read-clip bytes) gives

@@ -7,12 +7,12 @@ use Rattle.ebml_core.specs.declared.element.Element.{Element}
 use Rattle.ebml_core.specs.Walking.{Walk, ends, breaks, gives, whole}
 use Rattle.ebml_core.proofs.Numbers.{AreBytes}
 use Rattle.mkv_elements.specs.declared.TheConstants.{TIMESTAMP, SIMPLE_BLOCK, BLOCK_GROUP}
-use Rattle.mkv_read.specs.declared.clip.TheConstants.{MAX_FRAMES}
 use Rattle.mkv_read.specs.Plain.{named, Block, IsCluster, AreClusters, NeverFall}
 use Rattle.mkv_read.specs.Reading.{◌>>=◌, Taken, children_of, number_at, each_in, take_block, take_cluster}
 use Rattle.mkv_read.proofs.Elements.{bind_some, some, some_is, AreKnown, AreKnown-back, LackAll, LackAll-nil, LackAll-cons, LackAll-parts, Holds-known, Holds-from_walk, Found-whole, seek_in-found, seek_in-split}
 use Rattle.mkv_read.proofs.Tracks.{number_at-IsNumber, IsNumber-number_at}
 use Rattle.mkv_read.proofs.Blocks.{TakesBlocks, take_all, after_block, after_blocks, take_all-blocks, blocks-take_all}
+use Rattle.mkv_read.specs.Limits.{max_frames}
 
 -- ---- each element of an id
 
@@ -104,7 +104,7 @@ NeverFall-parts taken (b ∷ bs) cs falls =
 
 -- ---- one Cluster
 
-take_cluster-takes : (bytes : List ℕ) (number : ℕ) (cluster : Element) (taken more : Taken) → AreBytes bytes → length taken.packets ≤ MAX_FRAMES → take_cluster bytes number cluster taken ≡ Some more → TakesBlocks (IsCluster bytes number cluster) taken more
+take_cluster-takes : (bytes : List ℕ) (number : ℕ) (cluster : Element) (taken more : Taken) → AreBytes bytes → length taken.packets ≤ max_frames → take_cluster bytes number cluster taken ≡ Some more → TakesBlocks (IsCluster bytes number cluster) taken more
 unfolding take_cluster
 take_cluster-takes bytes number cluster taken more fits few h =
     let a = bind_some _ _ more h in
@@ -136,7 +136,7 @@ take_cluster-takes bytes number cluster taken more fits few h =
       is = t.is;
     }
 
-cluster-take_cluster : (bytes : List ℕ) (number : ℕ) (cluster : Element) (bs : List Block) (taken : Taken) → IsCluster bytes number cluster bs → NeverFall taken.last bs → length taken.packets + length bs ≤ MAX_FRAMES → take_cluster bytes number cluster taken ≡ Some (after_blocks taken bs)
+cluster-take_cluster : (bytes : List ℕ) (number : ℕ) (cluster : Element) (bs : List Block) (taken : Taken) → IsCluster bytes number cluster bs → NeverFall taken.last bs → length taken.packets + length bs ≤ max_frames → take_cluster bytes number cluster taken ≡ Some (after_blocks taken bs)
 unfolding take_cluster
 cluster-take_cluster bytes number cluster bs taken h falls few =
     let known = AreKnown-back h.before (h.timestamp ∷ h.after) (Holds-known bytes cluster.content cluster.end (h.before ++ h.timestamp ∷ h.after) h.held) in
@@ -146,7 +146,7 @@ cluster-take_cluster bytes number cluster bs taken h falls few =
 
 -- ---- all Clusters
 
-pub take_all-clusters : (bytes : List ℕ) (number : ℕ) (cs : List Element) (taken more : Taken) → AreBytes bytes → length taken.packets ≤ MAX_FRAMES → take_all (take_cluster bytes number) cs taken ≡ Some more → TakesBlocks (AreClusters bytes number cs) taken more
+pub take_all-clusters : (bytes : List ℕ) (number : ℕ) (cs : List Element) (taken more : Taken) → AreBytes bytes → length taken.packets ≤ max_frames → take_all (take_cluster bytes number) cs taken ≡ Some more → TakesBlocks (AreClusters bytes number cs) taken more
 take_all-clusters bytes number [] taken more fits few h =
     record { blocks = []; are = refl; falls = tt; few = omega (arith, few); is = some_is taken more h }
 take_all-clusters bytes number (c ∷ cs) taken more fits few h =
@@ -163,7 +163,7 @@ take_all-clusters bytes number (c ∷ cs) taken more fits few h =
       is = after_blocks-append taken front.blocks back.blocks ∙ back.is;
     }
 
-pub clusters-take_all : (bytes : List ℕ) (number : ℕ) (cs : List Element) (bs : List Block) (taken : Taken) → AreClusters bytes number cs bs → NeverFall taken.last bs → length taken.packets + length bs ≤ MAX_FRAMES → take_all (take_cluster bytes number) cs taken ≡ Some (after_blocks taken bs)
+pub clusters-take_all : (bytes : List ℕ) (number : ℕ) (cs : List Element) (bs : List Block) (taken : Taken) → AreClusters bytes number cs bs → NeverFall taken.last bs → length taken.packets + length bs ≤ max_frames → take_all (take_cluster bytes number) cs taken ≡ Some (after_blocks taken bs)
 clusters-take_all bytes number [] bs taken are falls few = ap (λ (xs : List Block). Some (after_blocks taken xs)) (sym are)
 clusters-take_all bytes number (c ∷ cs) bs taken are falls few =
     let front = are.0 in

@@ -9,12 +9,11 @@ use Rattle.ebml_core.specs.Spelling.{unsigned_of}
 use Rattle.ebml_core.proofs.Numbers.{AreBytes}
 use Rattle.mkv_elements.specs.declared.TheConstants.{DOC_TYPE, TRACK_ENTRY, TRACK_NUMBER, TRACK_TYPE, CODEC_ID, CODEC_PRIVATE, CONTENT_ENCODINGS, VIDEO, PIXEL_WIDTH, PIXEL_HEIGHT}
 use Rattle.mkv_read.specs.declared.clip.Place.{Place}
-use Rattle.mkv_read.specs.declared.clip.TheConstants.{MAX_SIDE, MAX_PRIVATE}
-use Rattle.mkv_read.specs.declared.track.TheConstants.{VIDEO_TYPE}
 use Rattle.mkv_read.specs.declared.plain.track.Track.{Track}
 use Rattle.mkv_read.specs.Plain.{content_of, text_of, IsNumber, IsMatroska, IsSide, IsPrivate, IsFfv1, IsTrack}
 use Rattle.mkv_read.specs.Reading.{require, number_at, side_at, private_at, ffv1_number_at, track_at, matroska_at}
 use Rattle.mkv_read.proofs.Elements.{bind_some, some, some_is, guard_some, only_at-HasOne, HasOne-only_at, none_at-HasNone, HasNone-none_at}
+use Rattle.mkv_read.specs.Limits.{max_side, max_private, video_type}
 
 pub number_at-IsNumber : (bytes : List ℕ) (e : Element) (n : ℕ) → number_at bytes e ≡ Some n → IsNumber bytes e n
 unfolding number_at
@@ -41,21 +40,21 @@ unfolding side_at
 side_at-IsSide bytes video id n fits h =
     let a = bind_some _ _ n h in
     let b = bind_some _ _ n a.2 in
-    let g = guard_some (eqb b.0 0 || ltb MAX_SIDE b.0) (Some b.0) n b.2 in
-    let parts = or_parts (eqb b.0 0) (ltb MAX_SIDE b.0) g.0 in
+    let g = guard_some (eqb b.0 0 || ltb max_side b.0) (Some b.0) n b.2 in
+    let parts = or_parts (eqb b.0 0) (ltb max_side b.0) g.0 in
     let some_more = eqb-false b.0 0 parts.0 in
     subst (λ (m : ℕ). IsSide bytes video id m) (some_is b.0 n g.1) (record {
       side = a.0;
       one = only_at-HasOne bytes video id a.0 fits a.1;
       value = number_at-IsNumber bytes a.0 b.0 b.1;
       some = omega (arith, some_more);
-      most = ltb-false MAX_SIDE b.0 parts.1;
+      most = ltb-false max_side b.0 parts.1;
     })
 
 IsSide-side_at : (bytes : List ℕ) (video : Element) (id n : ℕ) → IsSide bytes video id n → side_at bytes video id ≡ Some n
 unfolding side_at
 IsSide-side_at bytes video id n h =
-    rw (HasOne-only_at bytes video id h.side h.one, IsNumber-number_at bytes h.side n h.value, or_from (eqb n 0) (ltb MAX_SIDE n) (ne_eqb n 0 (λ e. omega (arith, e, h.some))) (le-ltb MAX_SIDE n h.most)) refl
+    rw (HasOne-only_at bytes video id h.side h.one, IsNumber-number_at bytes h.side n h.value, or_from (eqb n 0) (ltb max_side n) (ne_eqb n 0 (λ e. omega (arith, e, h.some))) (le-ltb max_side n h.most)) refl
 
 abbrev place : ℕ → ℕ → Place
 place from len = record { from = from; len = len }
@@ -65,8 +64,8 @@ unfolding private_at
 private_at-IsPrivate bytes entry p fits h =
     let a = bind_some _ _ p h in
     let len = a.0.end - a.0.content in
-    let g = guard_some (eqb len 0 || ltb MAX_PRIVATE len) (Some (place a.0.content len)) p a.2 in
-    let parts = or_parts (eqb len 0) (ltb MAX_PRIVATE len) g.0 in
+    let g = guard_some (eqb len 0 || ltb max_private len) (Some (place a.0.content len)) p a.2 in
+    let parts = or_parts (eqb len 0) (ltb max_private len) g.0 in
     let some_more = eqb-false len 0 parts.0 in
     subst (λ (q : Place). IsPrivate bytes entry q) (some_is (place a.0.content len) p g.1) (record {
       private = a.0;
@@ -74,14 +73,14 @@ private_at-IsPrivate bytes entry p fits h =
       from = refl;
       len = omega (arith, some_more);
       some = omega (arith, some_more);
-      most = ltb-false MAX_PRIVATE len parts.1;
+      most = ltb-false max_private len parts.1;
     })
 
 IsPrivate-private_at : (bytes : List ℕ) (entry : Element) (p : Place) → IsPrivate bytes entry p → private_at bytes entry ≡ Some p
 unfolding private_at
 IsPrivate-private_at bytes entry p h =
     let len : h.private.end - h.private.content ≡ p.len = omega (arith, h.from, h.len) in
-    rw (HasOne-only_at bytes entry CODEC_PRIVATE h.private h.one, len, or_from (eqb p.len 0) (ltb MAX_PRIVATE p.len) (ne_eqb p.len 0 (λ e. omega (arith, e, h.some))) (le-ltb MAX_PRIVATE p.len h.most)) (ap (λ (n : ℕ). some (place n p.len)) (sym h.from))
+    rw (HasOne-only_at bytes entry CODEC_PRIVATE h.private h.one, len, or_from (eqb p.len 0) (ltb max_private p.len) (ne_eqb p.len 0 (λ e. omega (arith, e, h.some))) (le-ltb max_private p.len h.most)) (ap (λ (n : ℕ). some (place n p.len)) (sym h.from))
 
 ffv1_number_at-IsFfv1 : (bytes : List ℕ) (entry : Element) (number : ℕ) → AreBytes bytes → ffv1_number_at bytes entry ≡ Some number → IsFfv1 bytes entry number
 unfolding ffv1_number_at
@@ -95,7 +94,7 @@ ffv1_number_at-IsFfv1 bytes entry number fits h =
     let k = bind_some _ _ number g.2 in
     let l = bind_some _ _ number k.2 in
     let same : b.0 ≡ number = some_is b.0 number l.2 in
-    let video : e.0 ≡ VIDEO_TYPE = eqb-true e.0 VIDEO_TYPE (require_some (eqb e.0 VIDEO_TYPE) f.0 f.1) in
+    let video : e.0 ≡ video_type = eqb-true e.0 video_type (require_some (eqb e.0 video_type) f.0 f.1) in
     record {
       number_element = a.0;
       one_number = only_at-HasOne bytes entry TRACK_NUMBER a.0 fits a.1;
@@ -112,7 +111,7 @@ ffv1_number_at-IsFfv1 bytes entry number fits h =
 IsFfv1-ffv1_number_at : (bytes : List ℕ) (entry : Element) (number : ℕ) → IsFfv1 bytes entry number → ffv1_number_at bytes entry ≡ Some number
 unfolding ffv1_number_at
 IsFfv1-ffv1_number_at bytes entry number h =
-    rw (HasOne-only_at bytes entry TRACK_NUMBER h.number_element h.one_number, IsNumber-number_at bytes h.number_element number h.number_is, HasOne-only_at bytes entry TRACK_TYPE h.type_element h.one_type, IsNumber-number_at bytes h.type_element VIDEO_TYPE h.type_is, HasOne-only_at bytes entry CODEC_ID h.codec h.one_codec, is-text (text_of (content_of bytes h.codec)) (codes "V_FFV1") h.codec_is, HasNone-none_at bytes entry CONTENT_ENCODINGS h.plain) refl
+    rw (HasOne-only_at bytes entry TRACK_NUMBER h.number_element h.one_number, IsNumber-number_at bytes h.number_element number h.number_is, HasOne-only_at bytes entry TRACK_TYPE h.type_element h.one_type, IsNumber-number_at bytes h.type_element video_type h.type_is, HasOne-only_at bytes entry CODEC_ID h.codec h.one_codec, is-text (text_of (content_of bytes h.codec)) (codes "V_FFV1") h.codec_is, HasNone-none_at bytes entry CONTENT_ENCODINGS h.plain) refl
 
 abbrev pub track : ℕ → ℕ → ℕ → Place → Track
 track number width height private = record { number = number; width = width; height = height; private = private }

@@ -1,5 +1,5 @@
 -- The clip of a Matroska file (RFC 9559), or its first fault.
-use Rattle.std.specs.Prelude.{ℕ, ◌==◌, nat_lt, Bool, false, List, [], ◌∷◌, length, map, Option, Some, None, Result, Ok, Err, if◌then◌else◌, codes}
+use Rattle.std.specs.Prelude.{ℕ, ◌≤◌, ◌==◌, nat_lt, Bool, false, List, [], ◌∷◌, length, map, Option, Some, None, Result, Ok, Err, if◌then◌else◌, codes}
 use Rattle.ebml_core.specs.declared.element.Element.{Element}
 use Rattle.ebml_core.specs.declared.element.EbmlFault.{EbmlFault}
 use Rattle.ebml_core.specs.Reading.{◌>>=◌}
@@ -7,17 +7,16 @@ use Rattle.ebml_core.specs.Walking.{Walk}
 use Rattle.mkv_elements.specs.declared.TheConstants.{EBML, DOC_TYPE, SEGMENT}
 use Rattle.mkv_elements.specs.declared.table.TheConstants.{FILE}
 use Rattle.mkv_read.specs.declared.clip.ClipIndex.{ClipIndex}
-use Rattle.mkv_read.specs.declared.clip.TheConstants.{MAX_FRAMES}
 use Rattle.mkv_read.specs.declared.fault.ClipFault.{ClipFault}
 use Rattle.mkv_read.specs.declared.fault.ClipFault.TheVariants as faults
 use Rattle.mkv_read.specs.declared.fault.Which.TheVariants as limits
 use Rattle.mkv_read.specs.declared.track.Track.{Track}
 use Rattle.mkv_read.specs.declared.block.Block.{Block}
-use Rattle.mkv_read.specs.declared.visit.TheConstants.{LEVELS}
 use Rattle.mkv_read.specs.Elements.{next_at, elements, elements_in, first}
 use Rattle.mkv_read.specs.Faults.{fault_in}
 use Rattle.mkv_read.specs.Blocks.{blocks_in, fault_after}
 use Rattle.mkv_read.specs.Tracks.{is_text, track_of}
+use Rattle.mkv_read.specs.Limits.{max_frames, depth}
 
 unfoldable pub segment_of : List ℕ → Option Element
 segment_of bytes = first SEGMENT (elements bytes 0 (length bytes))
@@ -38,7 +37,7 @@ is_element id (Err fault) = false
 -- The place of the first faulty element. The file's first element is its EBML header.
 unfoldable pub fault_of : List ℕ → Option ℕ
 fault_of bytes =
-    if is_element EBML (next_at bytes 0 (length bytes)) then fault_in LEVELS bytes FILE (file_of bytes) else Some 0
+    if is_element EBML (next_at bytes 0 (length bytes)) then fault_in depth bytes FILE (file_of bytes) else Some 0
 
 abbrev pub has_doc_type : List ℕ → Option Element → Bool
 has_doc_type bytes None = false
@@ -57,7 +56,7 @@ packed track (block ∷ blocks) None =
 -- the clip of a track with these blocks
 unfoldable pub clip_with : Track → List Block → Result ClipIndex ClipFault
 clip_with track blocks =
-    if nat_lt MAX_FRAMES (length blocks) then Err (faults.Limit limits.Frames) else packed track blocks (fault_after 0 blocks)
+    if nat_lt max_frames (length blocks) then Err (faults.Limit limits.Frames) else packed track blocks (fault_after 0 blocks)
 
 abbrev pub unless_faulty : Option ℕ → Result Unit ClipFault
 unless_faulty (Some at) = Err (faults.Ebml at)
@@ -66,9 +65,16 @@ unless_faulty None = Ok tt
 abbrev pub require : Bool → ClipFault → Result Unit ClipFault
 require holds fault = if holds then Ok tt else Err fault
 
+-- a clip within the limits: the size of its pictures, the bytes of its record, and the number of its packets
+pub record IsWithinLimits (clip : ClipIndex) : Type 0 where
+  pub width : (1 ≤ clip.width) × (clip.width ≤ 8192)
+  pub height : (1 ≤ clip.height) × (clip.height ≤ 8192)
+  pub private : (1 ≤ clip.private.len) × (clip.private.len ≤ 65536)
+  pub frames : (1 ≤ length clip.packets) × (length clip.packets ≤ 1000000)
+
 unfoldable pub clip_of : List ℕ → Result ClipIndex ClipFault
 clip_of bytes = do
   sound ← unless_faulty (fault_of bytes)
   matroska ← require (is_matroska bytes) faults.DocType
   track ← track_of bytes (segment_of bytes)
-  clip_with track (blocks_in LEVELS bytes (Some track.number) FILE 0 (file_of bytes))
+  clip_with track (blocks_in depth bytes (Some track.number) FILE 0 (file_of bytes))

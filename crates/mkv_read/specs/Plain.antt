@@ -7,8 +7,7 @@ use Rattle.ebml_core.specs.Spelling.{unsigned_of, IsSize, Holds, between}
 use Rattle.mkv_elements.specs.declared.TheConstants.{EBML, DOC_TYPE, SEGMENT, TRACKS, TRACK_ENTRY, TRACK_NUMBER, TRACK_TYPE, CODEC_ID, CODEC_PRIVATE, CONTENT_ENCODINGS, VIDEO, PIXEL_WIDTH, PIXEL_HEIGHT, CLUSTER, TIMESTAMP, SIMPLE_BLOCK, BLOCK_GROUP}
 use Rattle.mkv_read.specs.declared.clip.Place.{Place}
 use Rattle.mkv_read.specs.declared.clip.ClipIndex.{ClipIndex}
-use Rattle.mkv_read.specs.declared.clip.TheConstants.{MAX_SIDE, MAX_PRIVATE, MAX_FRAMES}
-use Rattle.mkv_read.specs.declared.track.TheConstants.{VIDEO_TYPE}
+use Rattle.mkv_read.specs.Limits.{max_side, max_private, max_frames, video_type}
 
 -- a place that lies before an end
 abbrev pub LiesBefore : ℕ → Place → Type 0
@@ -61,7 +60,7 @@ pub record IsSide (bytes : List ℕ) (video : Element) (id n : ℕ) : Type 0 whe
   pub one : HasOne bytes video id side
   pub value : IsNumber bytes side n
   pub some : 1 ≤ n
-  pub most : n ≤ MAX_SIDE
+  pub most : n ≤ max_side
 
 -- where the configuration record lies
 pub record IsPrivate (bytes : List ℕ) (entry : Element) (place : Place) : Type 0 where
@@ -70,7 +69,7 @@ pub record IsPrivate (bytes : List ℕ) (entry : Element) (place : Place) : Type
   pub from : place.from ≡ private.content
   pub len : place.from + place.len ≡ private.end
   pub some : 1 ≤ place.len
-  pub most : place.len ≤ MAX_PRIVATE
+  pub most : place.len ≤ max_private
 
 -- the entry of a video track of FFV1 with this number, whose blocks are neither compressed nor encrypted
 pub record IsFfv1 (bytes : List ℕ) (entry : Element) (number : ℕ) : Type 0 where
@@ -79,7 +78,7 @@ pub record IsFfv1 (bytes : List ℕ) (entry : Element) (number : ℕ) : Type 0 w
   pub number_is : IsNumber bytes number_element number
   pub type_element : Element
   pub one_type : HasOne bytes entry TRACK_TYPE type_element
-  pub type_is : IsNumber bytes type_element VIDEO_TYPE
+  pub type_is : IsNumber bytes type_element video_type
   pub codec : Element
   pub one_codec : HasOne bytes entry CODEC_ID codec
   pub codec_is : text_of (content_of bytes codec) ≡ codes "V_FFV1"
@@ -168,7 +167,7 @@ pub record IsSegment (bytes : List ℕ) (segment : Element) (clip : ClipIndex) :
   pub clusters : AreClusters bytes number (named CLUSTER after) blocks
   pub in_order : NeverFall 0 blocks
   pub some : 1 ≤ length blocks
-  pub most : length blocks ≤ MAX_FRAMES
+  pub most : length blocks ≤ max_frames
   pub packets : clip.packets ≡ map (λ block. block.packet) blocks
 
 -- A file that is an EBML header and a Segment, and nothing else, and holds this clip.

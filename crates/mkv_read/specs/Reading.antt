@@ -12,12 +12,11 @@ use Rattle.ebml_core.specs.Walking.{Walk, ends, breaks, gives, walk, Position, r
 use Rattle.mkv_elements.specs.declared.TheConstants.{EBML, DOC_TYPE, SEGMENT, TRACKS, TRACK_ENTRY, TRACK_NUMBER, TRACK_TYPE, CODEC_ID, CODEC_PRIVATE, CONTENT_ENCODINGS, VIDEO, PIXEL_WIDTH, PIXEL_HEIGHT, CLUSTER, TIMESTAMP, SIMPLE_BLOCK, BLOCK_GROUP}
 use Rattle.mkv_read.specs.declared.clip.Place.{Place}
 use Rattle.mkv_read.specs.declared.clip.ClipIndex.{ClipIndex}
-use Rattle.mkv_read.specs.declared.clip.TheConstants.{MAX_SIDE, MAX_PRIVATE, MAX_FRAMES}
-use Rattle.mkv_read.specs.declared.track.TheConstants.{VIDEO_TYPE}
 use Rattle.mkv_read.specs.declared.plain.track.Track.{Track}
 use Rattle.mkv_read.specs.declared.plain.fault.PlainFault.{PlainFault}
 use Rattle.mkv_read.specs.declared.plain.fault.PlainFault.TheVariants as faults
 use Rattle.mkv_read.specs.Plain.{content_of, text_of, Block, signed_plus_32768}
+use Rattle.mkv_read.specs.Limits.{max_side, max_private, max_frames, video_type}
 
 infixl 10 ◌>>=◌
 abbrev pub ◌>>=◌ : {A B : Type 0} → Option A → (A → Option B) → Option B
@@ -98,13 +97,13 @@ unfoldable pub side_at : List ℕ → Element → ℕ → Option ℕ
 side_at bytes video id = do
   side ← only_at bytes video id
   n ← number_at bytes side
-  if n == 0 || nat_lt MAX_SIDE n then None else Some n
+  if n == 0 || nat_lt max_side n then None else Some n
 
 unfoldable pub private_at : List ℕ → Element → Option Place
 private_at bytes entry = do
   private ← only_at bytes entry CODEC_PRIVATE
   let len = private.end - private.content
-  if len == 0 || nat_lt MAX_PRIVATE len then None else Some (record { from = private.content; len = len })
+  if len == 0 || nat_lt max_private len then None else Some (record { from = private.content; len = len })
 
 -- the number of a video track of FFV1
 unfoldable pub ffv1_number_at : List ℕ → Element → Option ℕ
@@ -113,7 +112,7 @@ ffv1_number_at bytes entry = do
   number ← number_at bytes number_element
   type_element ← only_at bytes entry TRACK_TYPE
   type ← number_at bytes type_element
-  video ← require (type == VIDEO_TYPE)
+  video ← require (type == video_type)
   codec ← only_at bytes entry CODEC_ID
   ffv1 ← require (bytes_eq (text_of (content_of bytes codec)) (codes "V_FFV1"))
   plain ← none_at bytes entry CONTENT_ENCODINGS
@@ -154,7 +153,7 @@ pub record Taken : Type 0 where
 unfoldable pub take_block : List ℕ → ℕ → ℕ → Element → Taken → Option Taken
 take_block bytes number timestamp e taken = do
   block ← block_at number timestamp e.content (content_of bytes e)
-  if nat_lt block.time taken.last || nat_le MAX_FRAMES (length taken.packets) then None else
+  if nat_lt block.time taken.last || nat_le max_frames (length taken.packets) then None else
       Some (record { packets = taken.packets ++ block.packet ∷ []; last = block.time })
 
 -- the elements of the wanted id, each taken by a step, where no element of a refused id stands

@@ -8,8 +8,6 @@ use Rattle.mkv_read.specs.declared.clip.Place.{Place}
 use Rattle.mkv_read.specs.declared.clip.ClipIndex.{ClipIndex}
 use Rattle.mkv_read.specs.declared.fault.Which.TheVariants as limits
 use Rattle.mkv_read.specs.declared.track.Track.{Track}
-use Rattle.mkv_read.specs.declared.visit.TheConstants.{LEVELS}
-use Rattle.mkv_read.specs.declared.clip.TheConstants.{MAX_FRAMES}
 use Rattle.mkv_read.specs.declared.fault.ClipFault.{ClipFault}
 use Rattle.mkv_read.specs.declared.fault.ClipFault.TheVariants as faults
 use Rattle.mkv_read.specs.declared.block.Block.{Block}
@@ -20,6 +18,7 @@ use Rattle.mkv_read.specs.Faults.{fault_in}
 use Rattle.mkv_read.specs.Blocks.{blocks_in, block_fault}
 use Rattle.mkv_read.specs.Tracks.{track_of}
 use Rattle.mkv_read.specs.Clip.{segment_of, file_of, is_element, is_matroska, require}
+use Rattle.mkv_read.specs.Limits.{depth, max_frames}
 
 -- A call fails so where reading does, and where memory runs out.
 abbrev pub Fails : {Y : Type 0} → ClipFault → Result Y ClipFault → Type 0
@@ -45,11 +44,11 @@ nothing_taken = record { count = 0; packets = []; last = 0; fault = None }
 
 -- one more, up to one more than a clip may have
 abbrev pub counted : ℕ → ℕ
-counted count = if nat_le count MAX_FRAMES then count + 1 else count
+counted count = if nat_le count max_frames then count + 1 else count
 
 -- one more packet, up to as many as a clip may have
 abbrev pub kept : List Place → Place → List Place
-kept packets packet = if nat_lt (length packets) MAX_FRAMES then packets ++ packet ∷ [] else packets
+kept packets packet = if nat_lt (length packets) max_frames then packets ++ packet ∷ [] else packets
 
 abbrev pub taken_after : Block → Taken → Option ClipFault → Option ClipFault → Taken
 taken_after block t (Some fault) now = record t { count = counted t.count }
@@ -81,7 +80,7 @@ finished_as track t None (packet ∷ packets) =
 -- the clip of a track of which this was taken
 abbrev pub finished : Track → Taken → Result ClipIndex ClipFault
 finished track t =
-    if nat_lt MAX_FRAMES t.count then Err (faults.Limit limits.Frames) else finished_as track t t.fault t.packets
+    if nat_lt max_frames t.count then Err (faults.Limit limits.Frames) else finished_as track t t.fault t.packets
 
 abbrev pub number_in : Result Track ClipFault → Option ℕ
 number_in (Ok track) = Some track.number
@@ -91,7 +90,7 @@ number_in (Err fault) = None
 unfoldable pub read : List ℕ → Result ClipIndex ClipFault
 read bytes =
     if is_element EBML (next_at bytes 0 (length bytes)) then (do
-      taken ← outcome (fault_in LEVELS bytes FILE (file_of bytes)) (blocks_in LEVELS bytes (number_in (track_of bytes (segment_of bytes))) FILE 0 (file_of bytes)) nothing_taken
+      taken ← outcome (fault_in depth bytes FILE (file_of bytes)) (blocks_in depth bytes (number_in (track_of bytes (segment_of bytes))) FILE 0 (file_of bytes)) nothing_taken
       matroska ← require (is_matroska bytes) faults.DocType
       track ← track_of bytes (segment_of bytes)
       finished track taken) else Err (faults.Ebml 0)

@@ -5,14 +5,13 @@ use Rattle.ebml_core.specs.declared.element.Element.{Element}
 use Rattle.ebml_core.specs.Spelling.{unsigned_of}
 use Rattle.mkv_elements.specs.declared.TheConstants.{TRACKS, TRACK_ENTRY, TRACK_NUMBER, TRACK_TYPE, CODEC_ID, CODEC_PRIVATE, CONTENT_ENCODINGS, VIDEO, PIXEL_WIDTH, PIXEL_HEIGHT}
 use Rattle.mkv_read.specs.declared.clip.Place.{Place}
-use Rattle.mkv_read.specs.declared.clip.TheConstants.{MAX_SIDE, MAX_PRIVATE}
 use Rattle.mkv_read.specs.declared.fault.ClipFault.{ClipFault}
 use Rattle.mkv_read.specs.declared.fault.ClipFault.TheVariants as faults
 use Rattle.mkv_read.specs.declared.fault.Which.TheVariants as limits
-use Rattle.mkv_read.specs.declared.track.TheConstants.{VIDEO_TYPE}
 use Rattle.mkv_read.specs.declared.track.Track.{Track}
 use Rattle.mkv_read.specs.Plain.{content_of, text_of}
 use Rattle.mkv_read.specs.Elements.{elements_in, first_where, first, number_of}
+use Rattle.mkv_read.specs.Limits.{max_side, max_private, video_type}
 
 abbrev pub is_text : List ℕ → List ℕ → Option Element → Bool
 is_text bytes text None = false
@@ -52,7 +51,7 @@ record_place bytes entry =
     if is_text bytes (codes "V_MS/VFW/FOURCC") (first CODEC_ID es) then fourcc_place bytes (first CODEC_PRIVATE es) else None)
 
 unfoldable pub is_video : List ℕ → Element → Bool
-is_video bytes e = e.id == TRACK_ENTRY && number_of bytes (first TRACK_TYPE (elements_in bytes e)) == VIDEO_TYPE
+is_video bytes e = e.id == TRACK_ENTRY && number_of bytes (first TRACK_TYPE (elements_in bytes e)) == video_type
 
 unfoldable pub is_ffv1 : List ℕ → Element → Bool
 is_ffv1 bytes e = is_video bytes e && is_some (record_place bytes e)
@@ -63,7 +62,7 @@ side_of bytes id None = 0
 side_of bytes id (Some video) = number_of bytes (first id (elements_in bytes video))
 
 abbrev pub is_side : ℕ → Bool
-is_side n = nat_lt 0 n && nat_le n MAX_SIDE
+is_side n = nat_lt 0 n && nat_le n max_side
 
 -- a track that is within the limits, or its first fault
 unfoldable pub track_within : Track → Bool → Result Track ClipFault
@@ -72,7 +71,7 @@ track_within track encoded =
     if encoded then Err faults.Encoded else (
     if is_side track.width then (
     if is_side track.height then (
-    if nat_le track.private.len MAX_PRIVATE then Ok track else
+    if nat_le track.private.len max_private then Ok track else
     Err (faults.Limit limits.Private)) else
     Err (faults.Limit limits.Height)) else
     Err (faults.Limit limits.Width)))

@@ -4,7 +4,7 @@ ghost use Rattle.mkv_elements.specs.declared.TheConstants.{EBML};
 ghost use Rattle.mkv_read.specs.Plain.{LiesBefore};
 ghost use Rattle.mkv_read.specs.Elements.{next_at};
 ghost use Rattle.mkv_read.specs.Taking.{Gives, taken_of, finished, number_in, read};
-ghost use Rattle.mkv_read.specs.Clip.{is_element, is_matroska, end_or, clip_of};
+ghost use Rattle.mkv_read.specs.Clip.{is_element, is_matroska, end_or, IsWithinLimits, clip_of};
 
 use crate::block::Blocks;
 use crate::clip::{ClipIndex, MAX_FRAMES, Places};
@@ -126,6 +126,7 @@ fn read(alloc: Global, bytes: &[u8]) -> Result<ClipIndex, ClipFault>
 /// `ClipFault` is answered, of `Laced` and `TimeOrder` the one of the first such block.
 pub fn read_clip(alloc: Global, bytes: &[u8]) -> Result<ClipIndex, ClipFault>
     ensures exact { Gives (λ clip. clip) result (clip_of bytes.now) }
+    ensures limits { IfOk result IsWithinLimits }
     ensures within { IfOk result (λ clip. LiesBefore (length bytes.now) clip.private
         × AllByRecursion (LiesBefore (length bytes.now)) clip.packets) }
 {

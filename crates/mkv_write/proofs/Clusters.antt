@@ -8,7 +8,7 @@ use Rattle.mkv_write.specs.File.{frame_time, size, element, number, simple_block
 use Rattle.mkv_write.specs.Writing.{IsPrefix}
 use Rattle.mkv_write.proofs.Lengths.{length-element}
 use Rattle.mkv_write.proofs.Octets.{length-bytes_high_first}
-use Rattle.mkv_write.proofs.Prefix.{prefix_refl, prefix_append}
+use Rattle.mkv_write.proofs.Prefix.{prefix_same, prefix_append}
 
 -- a number of 8 octets with an id of one takes 10 bytes
 length-number : (id value : ℕ) → length (number 1 id 8 value) ≡ 10
@@ -91,11 +91,11 @@ pub clusters-le : (rate : ℕ) (packets : List (List ℕ)) (fewer more : ℕ) �
 unfolding clusters
 clusters-le rate packets fewer zero le =
     let e : fewer ≡ 0 = omega arith in
-    rw e (prefix_refl [])
+    prefix_same (clusters rate packets fewer) [] (ap (clusters rate packets) e)
 clusters-le rate packets fewer (suc more) le = elim (cases_lt more fewer) [
   | inl all ↦
       let e : fewer ≡ suc more = omega arith in
-      rw e (prefix_refl (clusters rate packets more ++ cluster rate packets more))
+      prefix_same (clusters rate packets fewer) (clusters rate packets more ++ cluster rate packets more) (ap (clusters rate packets) e)
   | inr some ↦
       prefix_append (clusters rate packets fewer) (clusters rate packets more) (cluster rate packets more) (clusters-le rate packets fewer more some)
 ]

@@ -3,8 +3,8 @@ use Rattle.std.proofs.Common.{◌≡◌, ℕ, List, [], ◌++◌, take, drop, sy
 use Rattle.std.proofs.lemmas.List.{append-nil, take-append-drop}
 use Rattle.mkv_write.specs.Writing.{IsPrefix}
 
-pub prefix_refl : (whole : List ℕ) → IsPrefix whole whole
-prefix_refl whole = ([], sym (append-nil whole))
+pub prefix_same : (prefix whole : List ℕ) → prefix ≡ whole → IsPrefix prefix whole
+prefix_same prefix whole e = ([], sym (append-nil whole) ∙ ap (λ (x : List ℕ). x ++ []) (sym e))
 
 -- what comes after changes nothing
 pub prefix_append : (prefix whole more : List ℕ) → IsPrefix prefix whole → IsPrefix prefix (whole ++ more)

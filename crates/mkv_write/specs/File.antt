@@ -2,7 +2,6 @@
 use Rattle.std.specs.Prelude.{ℕ, zero, suc, ◌+◌, ◌-◌, ◌*◌, ◌/◌, ◌^◌, List, [], ◌∷◌, ◌++◌, length, take, drop, codes}
 use Rattle.std.specs.Int.{bytes_high_first}
 use Rattle.mkv_elements.specs.declared.TheConstants.{EBML, EBML_VERSION, EBML_READ_VERSION, EBML_MAX_ID_LENGTH, EBML_MAX_SIZE_LENGTH, DOC_TYPE, DOC_TYPE_VERSION, DOC_TYPE_READ_VERSION, SEGMENT, INFO, TIMESTAMP_SCALE, MUXING_APP, WRITING_APP, TRACKS, TRACK_ENTRY, TRACK_NUMBER, TRACK_UID, TRACK_TYPE, FLAG_LACING, CODEC_ID, CODEC_PRIVATE, VIDEO, PIXEL_WIDTH, PIXEL_HEIGHT, CLUSTER, TIMESTAMP, SIMPLE_BLOCK, CUES, CUE_POINT, CUE_TIME, CUE_TRACK_POSITIONS, CUE_TRACK, CUE_CLUSTER_POSITION}
-use Rattle.mkv_write.specs.declared.cluster.TheConstants.{CLUSTER_FRAMES}
 
 -- The time of a frame in milliseconds, the nearest to its own.
 unfoldable pub frame_time : (rate frame : ℕ) → ℕ
@@ -63,12 +62,16 @@ blocks rate time frame (packet ∷ packets) = simple_block (frame_time rate fram
 unfoldable pub cluster_of : (time : ℕ) (content : List ℕ) → List ℕ
 cluster_of time content = element 4 CLUSTER 8 (number 1 TIMESTAMP 8 time ++ content)
 
+-- How many frames a Cluster has; the last one has 1 to 25.
+abbrev pub cluster_frames : ℕ
+cluster_frames = 25
+
 -- The Cluster of an index, from 0, with 25 packets or, at the end, those that are left.
 unfoldable pub cluster : (rate : ℕ) (packets : List (List ℕ)) (index : ℕ) → List ℕ
 cluster rate packets index =
-    let first = CLUSTER_FRAMES * index in
+    let first = cluster_frames * index in
     let time = frame_time rate first in
-    cluster_of time (blocks rate time first (take CLUSTER_FRAMES (drop first packets)))
+    cluster_of time (blocks rate time first (take cluster_frames (drop first packets)))
 
 -- The first Clusters.
 unfoldable pub clusters : (rate : ℕ) (packets : List (List ℕ)) (count : ℕ) → List ℕ
@@ -77,7 +80,7 @@ clusters rate packets (suc index) = clusters rate packets index ++ cluster rate 
 
 -- How many Clusters so many packets take.
 abbrev pub cluster_count : ℕ → ℕ
-cluster_count packets = (packets + (CLUSTER_FRAMES - 1)) / CLUSTER_FRAMES
+cluster_count packets = (packets + (cluster_frames - 1)) / cluster_frames
 
 -- Where a Cluster begins, counted from the first byte of the Segment's content, where so many bytes stand before the first Cluster (RFC 9559 section 16).
 unfoldable pub cluster_place : (lead_length rate : ℕ) (packets : List (List ℕ)) (index : ℕ) → ℕ
@@ -91,7 +94,7 @@ cue_point time place = element 1 CUE_POINT 1 (number 1 CUE_TIME 8 time ++ elemen
 unfoldable pub cue_points : (lead_length rate : ℕ) (packets : List (List ℕ)) (count : ℕ) → List ℕ
 cue_points lead_length rate packets zero = []
 cue_points lead_length rate packets (suc index) = cue_points lead_length rate packets index
-    ++ cue_point (frame_time rate (CLUSTER_FRAMES * index)) (cluster_place lead_length rate packets index)
+    ++ cue_point (frame_time rate (cluster_frames * index)) (cluster_place lead_length rate packets index)
 
 -- Cues (RFC 9559 section 5.1.5).
 unfoldable pub cues : (lead_length rate : ℕ) (packets : List (List ℕ)) (count : ℕ) → List ℕ

@@ -1,18 +1,17 @@
 -- What a writer keeps between two calls.
 use Rattle.std.specs.Prelude.{◌≡◌, ℕ, ◌+◌, ◌*◌, ◌/◌, ◌^◌, ◌≤◌, List, length, drop}
 use Rattle.std.specs.List.{flat_map}
-use Rattle.mkv_write.specs.declared.cluster.TheConstants.{CLUSTER_FRAMES}
 use Rattle.mkv_write.specs.declared.cue.Cue.{Cue}
-use Rattle.mkv_write.specs.File.{frame_time, lead, blocks, cluster_place, cue_point, cue_points}
+use Rattle.mkv_write.specs.File.{frame_time, lead, cluster_frames, blocks, cluster_place, cue_point, cue_points}
 use Rattle.mkv_write.specs.Writing.{Writing}
 
 -- How many Clusters are full.
 abbrev pub full_count : Writing → ℕ
-full_count w = length w.packets / CLUSTER_FRAMES
+full_count w = length w.packets / cluster_frames
 
 -- The first frame after the full Clusters.
 abbrev pub first_open : Writing → ℕ
-first_open w = CLUSTER_FRAMES * full_count w
+first_open w = cluster_frames * full_count w
 
 -- The blocks of the packets after the full Clusters.
 abbrev pub open_blocks : Writing → List ℕ

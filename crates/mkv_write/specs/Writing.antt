@@ -3,8 +3,7 @@ use Rattle.std.specs.Prelude.{◌≡◌, ℕ, ◌/◌, List, [], ◌∷◌, ◌+
 use Rattle.tl_ports.specs.Outside.{Rose}
 use Rattle.mkv_write.specs.declared.fault.WriteFault.{WriteFault}
 use Rattle.mkv_write.specs.declared.fault.WriteFault.TheVariants as writing
-use Rattle.mkv_write.specs.declared.cluster.TheConstants.{CLUSTER_FRAMES}
-use Rattle.mkv_write.specs.File.{head, clusters, mkv}
+use Rattle.mkv_write.specs.File.{head, cluster_frames, clusters, mkv}
 
 -- A file that is being written, and the packets that were given so far.
 pub record Writing : Type 0 where
@@ -28,23 +27,23 @@ file_of w = mkv w.private w.width w.height w.rate w.packets
 
 -- What was put so far: all that stands before the first Cluster, and each Cluster that is full.
 abbrev pub put_of : Writing → List ℕ
-put_of w = head w.private w.width w.height ++ clusters w.rate w.packets (length w.packets / CLUSTER_FRAMES)
+put_of w = head w.private w.width w.height ++ clusters w.rate w.packets (length w.packets / cluster_frames)
 
 -- A list begins with another.
 abbrev pub IsPrefix : List ℕ → List ℕ → Type 0
 IsPrefix prefix whole = (rest : List ℕ) × (whole ≡ prefix ++ rest)
 
--- What the begun file holds after a call, where it is told: at `Ok` what was to be put, and after a fault a prefix of the file.
-abbrev pub Puts : {T : Type 0} (tells : Type 0) (held put file : List ℕ) → Result T WriteFault → Type 0
-Puts tells held put file (Ok value) = tells → held ≡ put
-Puts tells held put file (Err fault) = tells → IsPrefix held file
+-- What the begun file holds after a call, where it is told: at `Ok` the whole of what was to be put, and after a fault a prefix of it.
+abbrev pub Puts : {T : Type 0} (tells : Type 0) (held whole : List ℕ) → Result T WriteFault → Type 0
+Puts tells held whole (Ok value) = tells → held ≡ whole
+Puts tells held whole (Err fault) = tells → IsPrefix held whole
 
 -- The same of a piece that is added at the end.
 abbrev pub Appends : {T : Type 0} (tells : Type 0) (before after piece : List ℕ) → Result T WriteFault → Type 0
-Appends tells before after piece result = Puts tells after (before ++ piece) (before ++ piece) result
+Appends tells before after piece result = Puts tells after (before ++ piece) result
 
--- `Sink` comes only where the vault's count rose in that call.
+-- `Sink` comes only where the vault's count rose in that call, and every other answer leaves the count as it was.
 abbrev pub WriteHasCause : {T : Type 0} → ℕ → ℕ → Result T WriteFault → Type 0
-WriteHasCause before now (Ok value) = Unit {0}
+WriteHasCause before now (Ok value) = now ≡ before
 WriteHasCause before now (Err writing.Sink) = Rose before now
-WriteHasCause before now (Err writing.NoMemory) = Unit {0}
+WriteHasCause before now (Err writing.NoMemory) = now ≡ before

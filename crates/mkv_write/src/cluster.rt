@@ -2,7 +2,7 @@
 
 ghost use Rattle.std.specs.Prelude.{◌≡◌, ◌++◌, ◌+◌, ◌-◌, ◌*◌, ◌/◌, ◌<◌, ◌≤◌, ◌^◌, length, OnOk, OnErr, IfOk, IsSome};
 ghost use Rattle.tl_ports.specs.Outside.{KeepsBegun};
-ghost use Rattle.mkv_write.specs.File.{frame_time, simple_block, cluster_of};
+ghost use Rattle.mkv_write.specs.File.{frame_time, simple_block, cluster_frames, cluster_of};
 ghost use Rattle.mkv_write.specs.History.{packet_of};
 ghost use Rattle.mkv_write.specs.Writing.{Appends, IsPrefix, WriteHasCause};
 
@@ -39,7 +39,7 @@ pub(crate) fn frame_time(rate: u32, frame: u32) -> u64
 /// The time of the Cluster that a frame is in.
 pub(crate) fn cluster_time(rate: u32, frame: u32) -> u64
     requires { 1 ≤ rate }
-    ensures { result ≡ frame_time rate (CLUSTER_FRAMES * (frame / CLUSTER_FRAMES)) }
+    ensures { result ≡ frame_time rate (cluster_frames * (frame / cluster_frames)) }
 {
     frame_time(rate, CLUSTER_FRAMES * (frame / CLUSTER_FRAMES))
 }
@@ -47,7 +47,7 @@ pub(crate) fn cluster_time(rate: u32, frame: u32) -> u64
 /// The time of a frame after its Cluster's.
 pub(crate) fn block_time(rate: u32, frame: u32) -> u16
     requires { 1 ≤ rate }
-    ensures { result ≡ frame_time rate frame - frame_time rate (CLUSTER_FRAMES * (frame / CLUSTER_FRAMES)) }
+    ensures { result ≡ frame_time rate frame - frame_time rate (cluster_frames * (frame / cluster_frames)) }
 {
     (frame_time(rate, frame) - cluster_time(rate, frame)) as u16
 }

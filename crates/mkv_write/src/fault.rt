@@ -12,7 +12,7 @@ use tl_ports::PutFault;
 pub enum WriteFault {
     /// The vault failed; its count of faults rose.
     Sink,
-    /// Memory ran out.
+    /// Memory ran out; the vault's count of faults is as it was.
     NoMemory,
 }
 

@@ -2,7 +2,7 @@
 
 ghost use Rattle.std.specs.Prelude.{◌≡◌, ℕ, ◌+◌, ◌%◌, ◌<◌, ◌≤◌, ◌^◌, ◌++◌, ◌∷◌, [], List, length, IsSome, IfOk, OnOk, OnErr};
 ghost use Rattle.tl_ports.specs.Outside.{KeepsBegun};
-ghost use Rattle.mkv_write.specs.File.{mkv, head, clusters, cue_points, cluster_count};
+ghost use Rattle.mkv_write.specs.File.{mkv, head, cluster_frames, clusters, cue_points, cluster_count};
 ghost use Rattle.mkv_write.specs.Keeping.{lead_length, points_of};
 ghost use Rattle.mkv_write.specs.Writing.{Writing, nothing_yet, with_packet, put_of, file_of, Puts, IsPrefix, WriteHasCause};
 
@@ -27,8 +27,10 @@ const CLUSTER_HEAD: u64 = 22;
 /// as a `Writing`: the configuration record, the size of the picture, the rate, and the packets that were given.
 ///
 /// Each call answers `Sink` only where the vault's count of faults rose in that call, and `NoMemory` where memory ran
-/// out. What was put is then a prefix of the file, and the file is given up: its caller ends it. Whatever the answer,
-/// the file stays begun, and no other file changes.
+/// out; with every answer but `Sink` the count is as it was. After a fault the file is given up: its caller ends it.
+/// What was put is then a prefix of the file over the packets that were given, a refused one among them, and after a
+/// fault of `start` or `frame` over any that would follow too. Whatever the answer, the file stays begun, and no other
+/// file changes.
 #[derive(Drop)]
 pub struct MkvWriter {
     alloc: Global,
@@ -58,7 +60,8 @@ impl Model for MkvWriter {
 
 impl MkvWriter {
     /// Starts a file in the begun one, which is empty, and puts all that stands before its first Cluster. The size of
-    /// the picture is in pixels, `private` is the configuration record (RFC 9043 section 4.2), and the rate is in frames a second.
+    /// the picture is in pixels, `private` is the configuration record (RFC 9043 section 4.2), and the rate is in frames
+    /// a second. After a fault a prefix of that was put.
     pub fn start<V: Vault>(
         alloc: Global,
         vault: &mut V,
@@ -74,8 +77,7 @@ impl MkvWriter {
         requires private { (1 ≤ length private.now) × (length private.now ≤ 65536) }
         requires rate { (1 ≤ rate) × (rate ≤ 240) }
         ensures started { IfOk result (λ writer. writer ≡ nothing_yet private.now width height rate) }
-        ensures put { let w = nothing_yet private.now width height rate in
-            Puts V.tells (V.held vault.new) (put_of w) (file_of w) result }
+        ensures put { Puts V.tells (V.held vault.new) (put_of (nothing_yet private.now width height rate)) result }
         ensures kept { KeepsBegun V.tells V.begun V.file V.faults vault.old vault.new }
         ensures cause { WriteHasCause (V.faults vault.old) (V.faults vault.new) result }
     {
@@ -94,8 +96,9 @@ impl MkvWriter {
         })
     }
 
-    /// Adds the packet of the next frame. A Cluster is put when its last packet, the 25th, comes. After a fault a prefix
-    /// of the file over the earlier packets and this one was put, and the writer is as before.
+    /// Adds the packet of the next frame. A Cluster is put when its last packet, the 25th, comes. After a fault the
+    /// writer is as before. What was put is then a prefix of the file over the earlier packets, this one, and any that
+    /// would follow.
     pub fn frame<V: Vault>(&mut self, vault: &mut V, packet: &[u8]) -> Result<(), WriteFault>
         requires begun { IsSome (V.begun vault.old) }
         requires held { V.tells → V.held vault.old ≡ put_of self.old }
@@ -103,8 +106,7 @@ impl MkvWriter {
         requires size { length packet.now ≤ 2 ^ 40 }
         ensures added { OnOk result (self.new ≡ with_packet self.old packet.now) }
         ensures same { OnErr result (self.new ≡ self.old) }
-        ensures put { let w = with_packet self.old packet.now in
-            Puts V.tells (V.held vault.new) (put_of w) (file_of w) result }
+        ensures put { Puts V.tells (V.held vault.new) (put_of (with_packet self.old packet.now)) result }
         ensures kept { KeepsBegun V.tells V.begun V.file V.faults vault.old vault.new }
         ensures cause { WriteHasCause (V.faults vault.old) (V.faults vault.new) result }
     {
@@ -121,7 +123,7 @@ impl MkvWriter {
     fn gather(&mut self, packet: &[u8]) -> Result<(), AllocError>
         requires frames { length self.old.packets < 1000000 }
         requires size { length packet.now ≤ 2 ^ 40 }
-        requires early { length self.old.packets % CLUSTER_FRAMES + 1 < CLUSTER_FRAMES }
+        requires early { length self.old.packets % cluster_frames + 1 < cluster_frames }
         ensures added { OnOk result (self.new ≡ with_packet self.old packet.now) }
         ensures same { OnErr result (self.new ≡ self.old) }
     {
@@ -139,11 +141,10 @@ impl MkvWriter {
         requires held { V.tells → V.held vault.old ≡ put_of self.old }
         requires frames { length self.old.packets < 1000000 }
         requires size { length packet.now ≤ 2 ^ 40 }
-        requires last { length self.old.packets % CLUSTER_FRAMES + 1 ≡ CLUSTER_FRAMES }
+        requires last { length self.old.packets % cluster_frames + 1 ≡ cluster_frames }
         ensures added { OnOk result (self.new ≡ with_packet self.old packet.now) }
         ensures same { OnErr result (self.new ≡ self.old) }
-        ensures put { let w = with_packet self.old packet.now in
-            Puts V.tells (V.held vault.new) (put_of w) (file_of w) result }
+        ensures put { Puts V.tells (V.held vault.new) (put_of (with_packet self.old packet.now)) result }
         ensures kept { KeepsBegun V.tells V.begun V.file V.faults vault.old vault.new }
         ensures cause { WriteHasCause (V.faults vault.old) (V.faults vault.new) result }
     {
@@ -170,13 +171,14 @@ impl MkvWriter {
         Ok(())
     }
 
-    /// Puts the rest of the file, the Cluster that isn't full and the Cues, and answers how many frames it has.
+    /// Puts the rest of the file, the Cluster that isn't full and the Cues, and answers how many frames it has. After a
+    /// fault a prefix of the file was put.
     pub fn finish<V: Vault>(self, vault: &mut V) -> Result<u32, WriteFault>
         requires begun { IsSome (V.begun vault.old) }
         requires held { V.tells → V.held vault.old ≡ put_of self }
         requires frames { 1 ≤ length self.packets }
         ensures frames { IfOk result (λ frames. frames ≡ length self.packets) }
-        ensures put { Puts V.tells (V.held vault.new) (file_of self) (file_of self) result }
+        ensures put { Puts V.tells (V.held vault.new) (file_of self) result }
         ensures kept { KeepsBegun V.tells V.begun V.file V.faults vault.old vault.new }
         ensures cause { WriteHasCause (V.faults vault.old) (V.faults vault.new) result }
     {
@@ -196,8 +198,7 @@ impl MkvWriter {
             ≡ cue_points (lead_length self) self.rate self.packets (cluster_count (length self.packets))) }
         ensures put { Puts V.tells (V.held vault.new)
             (head self.private self.width self.height
-            ++ clusters self.rate self.packets (cluster_count (length self.packets)))
-            (file_of self) result }
+            ++ clusters self.rate self.packets (cluster_count (length self.packets))) result }
         ensures kept { KeepsBegun V.tells V.begun V.file V.faults vault.old vault.new }
         ensures cause { WriteHasCause (V.faults vault.old) (V.faults vault.new) result }
     {

@@ -4,3 +4,4 @@ pub mod Stops
 pub mod Exporting
 pub mod Saying
 pub mod Running
+pub mod Faulty

@@ -1,32 +1,33 @@
 -- What a run did, from what its parts did.
-use Rattle.std.proofs.Common.{◌≡◌, ◌⊎◌, ◌≢◌, ℕ, ◌+◌, ◌≤◌, ◌<◌, Bool, true, false, List, [], ◌++◌, length, take, Option, Some, None, Result, Ok, Err, refl, sym, ap, ◌∙◌, subst, inl, inr, arith}
+use Rattle.std.proofs.Common.{◌≡◌, ◌⊎◌, ℕ, Bool, true, false, List, Option, Some, None, Result, Ok, Err, refl, sym, ap, ◌∙◌, inl, inr, arith}
 use Rattle.std.specs.Str.{bytes_eq}
 use Rattle.std.proofs.lemmas.Slice.Eq.{bytes_eq-Decides}
-use Rattle.tl_ports.specs.Outside.{Rose, KeepsOthers}
+use Rattle.tl_ports.specs.Outside.{KeepsOthers}
 use Rattle.tl_ports.specs.declared.fault.PutFault.{PutFault}
 use Rattle.tl_ports.specs.declared.fault.PutFault.TheVariants as putting
 use Rattle.mkv_read.specs.declared.clip.ClipIndex.{ClipIndex}
 use Rattle.timeline_app.specs.declared.stop.Stop.{Stop}
 use Rattle.timeline_app.specs.declared.stop.Stop.TheVariants as stops
-use Rattle.timeline_app.specs.declared.export.Ending.TheVariants as endings
 use Rattle.timeline_app.specs.Script.{Form}
 use Rattle.timeline_app.specs.Lines.{usage_line, refused_lines}
-use Rattle.timeline_app.specs.Run.{IsJob, IsInside, IsPartial, Says, Puts, StopsWith, StopHasCause, stop_line, stop_status, status_after, ChangesExport, Plays, PlaysExport, PlaysRefusal, export_lines}
-use Rattle.timeline_app.specs.Top.{Works, Played, Stopped, Unsunk, ChangesOnlyExport, SaysTranscript, Runs}
+use Rattle.timeline_app.specs.Run.{Count, Rises, IsCalm, IsJob, IsInside, IsPartial, Says, Puts, StopsWith, StopHasCause, stop_line, stop_status, status_after, ChangesExport, Plays, export_lines}
+use Rattle.timeline_app.specs.Top.{Works, Stopped, ChangesOnlyExport, SaysTranscript, Runs}
 use Rattle.timeline_app.proofs.Saying.{whole_front}
 
 -- The last line decides only between its status and want of memory.
-pub stops_with : (tells rose : Type 0) (before after text : List ℕ) (said : Result Unit PutFault) (status : ℕ) → Says tells before after text rose said → StopsWith tells rose before after text status (status_after said status)
-stops_with tells rose before after text (Ok done) status h = record { ended = inr (refl, inl h); said = whole_front tells before after text h }
-stops_with tells rose before after text (Err putting.Failed) status h = record { ended = inr (refl, inr h); said = h.1 }
-stops_with tells rose before after text (Err putting.NoMemory) status h = record { ended = inl refl; said = h }
+pub stops_with : (tells : Type 0) (faults : Count) (before after text : List ℕ) (said : Result Unit PutFault) (status : ℕ) → Says tells before after text faults said
+    → StopsWith tells (Rises faults) before after text status (status_after said status)
+stops_with tells faults before after text (Ok done) status h = record { ended = inr (refl, inl h.0); said = whole_front tells before after text h.0 }
+stops_with tells faults before after text (Err putting.Failed) status h = record { ended = inr (refl, inr h); said = h.1 }
+stops_with tells faults before after text (Err putting.NoMemory) status h = record { ended = inl refl; said = h.1 }
 
 -- The words aren't of the form, and memory may have run out.
-misused_by : (tells rose : Type 0) (file : List ℕ → Option (List ℕ)) (vault_tells vault_rose : Type 0) (old : List ℕ → Option (List ℕ)) (out_tells out_rose : Type 0) (before after : List ℕ) (status : ℕ)
-    → (status ≡ 5) ⊎ ((status ≡ 2) × Puts out_tells out_rose before after usage_line) → SaysTranscript None tells rose file out_tells before after
-    → Runs None tells rose file vault_tells vault_rose old old out_tells out_rose before after status
-misused_by tells rose file vt vr old ot or before after status (inl memory) lines = record {
+misused_by : (tells : Type 0) (faults : Count) (file : List ℕ → Option (List ℕ)) (vault_tells : Type 0) (vault_faults : Count) (old : List ℕ → Option (List ℕ)) (out_tells : Type 0) (out_faults : Count) (before after : List ℕ) (status : ℕ)
+    → (status ≡ 5) ⊎ ((status ≡ 2) × Puts out_tells (Rises out_faults) before after usage_line) → SaysTranscript None tells (Rises faults) file vault_tells vault_faults old out_tells before after
+    → Runs None tells faults file vault_tells vault_faults old old out_tells out_faults before after status
+misused_by tells faults file vt vf old ot outf before after status (inl memory) lines = record {
   played = λ e. absurd (omega (arith, e, memory));
+  calm = λ e. absurd (omega (arith, e, memory));
   misused = λ e. absurd (omega (arith, e, memory));
   faulty = λ e. absurd (omega (arith, e, memory));
   outside = λ e. absurd (omega (arith, e, memory));
@@ -35,8 +36,9 @@ misused_by tells rose file vt vr old ot or before after status (inl memory) line
   files = λ told other. inl refl;
   lines = lines;
 }
-misused_by tells rose file vt vr old ot or before after status (inr h) lines = record {
+misused_by tells faults file vt vf old ot outf before after status (inr h) lines = record {
   played = λ e. absurd (omega (arith, e, h.0));
+  calm = λ e. absurd (omega (arith, e, h.0));
   misused = λ _. (refl, h.1);
   faulty = λ e. absurd (omega (arith, e, h.0));
   outside = λ e. absurd (omega (arith, e, h.0));
@@ -47,19 +49,20 @@ misused_by tells rose file vt vr old ot or before after status (inr h) lines = r
 }
 
 -- The words aren't of the form.
-pub run_misused : (tells rose : Type 0) (file : List ℕ → Option (List ℕ)) (vault_tells vault_rose : Type 0) (old : List ℕ → Option (List ℕ)) (out_tells out_rose : Type 0) (before after : List ℕ) (status : ℕ)
-    → StopsWith out_tells out_rose before after usage_line 2 status → Runs None tells rose file vault_tells vault_rose old old out_tells out_rose before after status
-run_misused tells rose file vt vr old ot or before after status h = misused_by tells rose file vt vr old ot or before after status h.ended (usage_line, inl (refl, refl), h.said)
+pub run_misused : (tells : Type 0) (faults : Count) (file : List ℕ → Option (List ℕ)) (vault_tells : Type 0) (vault_faults : Count) (old : List ℕ → Option (List ℕ)) (out_tells : Type 0) (out_faults : Count) (before after : List ℕ) (status : ℕ)
+    → StopsWith out_tells (Rises out_faults) before after usage_line 2 status → Runs None tells faults file vault_tells vault_faults old old out_tells out_faults before after status
+run_misused tells faults file vt vf old ot outf before after status h = misused_by tells faults file vt vf old ot outf before after status h.ended (usage_line, inl (refl, refl), h.said)
 
 -- a name that is there is none that isn't
 named : {A : Type 0} (name : List ℕ) → Some name ≡ None → A
 named name e = absurd cc
 
 -- The session didn't start, for want of memory.
-early_memory : (name : List ℕ) (tells rose : Type 0) (file : List ℕ → Option (List ℕ)) (vault_tells vault_rose : Type 0) (old : List ℕ → Option (List ℕ)) (out_tells out_rose : Type 0) (before after : List ℕ) (status : ℕ)
-    → status ≡ 5 → SaysTranscript (Some name) tells rose file out_tells before after → Runs (Some name) tells rose file vault_tells vault_rose old old out_tells out_rose before after status
-early_memory name tells rose file vt vr old ot or before after status memory lines = record {
+early_memory : (name : List ℕ) (tells : Type 0) (faults : Count) (file : List ℕ → Option (List ℕ)) (vault_tells : Type 0) (vault_faults : Count) (old : List ℕ → Option (List ℕ)) (out_tells : Type 0) (out_faults : Count) (before after : List ℕ) (status : ℕ)
+    → status ≡ 5 → SaysTranscript (Some name) tells (Rises faults) file vault_tells vault_faults old out_tells before after → Runs (Some name) tells faults file vault_tells vault_faults old old out_tells out_faults before after status
+early_memory name tells faults file vt vf old ot outf before after status memory lines = record {
   played = λ e. absurd (omega (arith, e, memory));
+  calm = λ e. absurd (omega (arith, e, memory));
   misused = λ e. absurd (omega (arith, e, memory));
   faulty = λ e. absurd (omega (arith, e, memory));
   outside = λ e. absurd (omega (arith, e, memory));
@@ -70,10 +73,11 @@ early_memory name tells rose file vt vr old ot or before after status memory lin
 }
 
 -- The session didn't start, for a cause of status 3 or 4.
-early_three : (name : List ℕ) (tells rose : Type 0) (file : List ℕ → Option (List ℕ)) (vault_tells vault_rose : Type 0) (old : List ℕ → Option (List ℕ)) (out_tells out_rose : Type 0) (before after : List ℕ) (status : ℕ)
-    → status ≡ 3 → Stopped 3 (Some name) tells rose file out_tells out_rose before after → SaysTranscript (Some name) tells rose file out_tells before after → Runs (Some name) tells rose file vault_tells vault_rose old old out_tells out_rose before after status
-early_three name tells rose file vt vr old ot or before after status three h lines = record {
+early_three : (name : List ℕ) (tells : Type 0) (faults : Count) (file : List ℕ → Option (List ℕ)) (vault_tells : Type 0) (vault_faults : Count) (old : List ℕ → Option (List ℕ)) (out_tells : Type 0) (out_faults : Count) (before after : List ℕ) (status : ℕ)
+    → status ≡ 3 → Stopped 3 (Some name) tells (Rises faults) file out_tells (Rises out_faults) before after → SaysTranscript (Some name) tells (Rises faults) file vault_tells vault_faults old out_tells before after → Runs (Some name) tells faults file vault_tells vault_faults old old out_tells out_faults before after status
+early_three name tells faults file vt vf old ot outf before after status three h lines = record {
   played = λ e. absurd (omega (arith, e, three));
+  calm = λ e. absurd (omega (arith, e, three));
   misused = λ e. absurd (omega (arith, e, three));
   faulty = λ _. h;
   outside = λ e. absurd (omega (arith, e, three));
@@ -83,10 +87,11 @@ early_three name tells rose file vt vr old ot or before after status three h lin
   lines = lines;
 }
 
-early_four : (name : List ℕ) (tells rose : Type 0) (file : List ℕ → Option (List ℕ)) (vault_tells vault_rose : Type 0) (old : List ℕ → Option (List ℕ)) (out_tells out_rose : Type 0) (before after : List ℕ) (status : ℕ)
-    → status ≡ 4 → Stopped 4 (Some name) tells rose file out_tells out_rose before after → SaysTranscript (Some name) tells rose file out_tells before after → Runs (Some name) tells rose file vault_tells vault_rose old old out_tells out_rose before after status
-early_four name tells rose file vt vr old ot or before after status four h lines = record {
+early_four : (name : List ℕ) (tells : Type 0) (faults : Count) (file : List ℕ → Option (List ℕ)) (vault_tells : Type 0) (vault_faults : Count) (old : List ℕ → Option (List ℕ)) (out_tells : Type 0) (out_faults : Count) (before after : List ℕ) (status : ℕ)
+    → status ≡ 4 → Stopped 4 (Some name) tells (Rises faults) file out_tells (Rises out_faults) before after → SaysTranscript (Some name) tells (Rises faults) file vault_tells vault_faults old out_tells before after → Runs (Some name) tells faults file vault_tells vault_faults old old out_tells out_faults before after status
+early_four name tells faults file vt vf old ot outf before after status four h lines = record {
   played = λ e. absurd (omega (arith, e, four));
+  calm = λ e. absurd (omega (arith, e, four));
   misused = λ e. absurd (omega (arith, e, four));
   faulty = λ e. absurd (omega (arith, e, four));
   outside = λ _. inr (inl h);
@@ -97,24 +102,24 @@ early_four name tells rose file vt vr old ot or before after status four h lines
 }
 
 -- The session didn't start: its status is that of its cause, or memory ran out.
-stopped_by : (name : List ℕ) (tells rose : Type 0) (file : List ℕ → Option (List ℕ)) (vault_tells vault_rose : Type 0) (old : List ℕ → Option (List ℕ)) (out_tells out_rose : Type 0) (before after : List ℕ) (stop : Stop) (status : ℕ)
-    → StopHasCause tells file name rose stop → (status ≡ 5) ⊎ ((status ≡ stop_status stop) × Puts out_tells out_rose before after (stop_line stop)) → SaysTranscript (Some name) tells rose file out_tells before after
-    → Runs (Some name) tells rose file vault_tells vault_rose old old out_tells out_rose before after status
-stopped_by name tells rose file vt vr old ot or before after stop status cause (inl memory) lines = early_memory name tells rose file vt vr old ot or before after status memory lines
-stopped_by name tells rose file vt vr old ot or before after (stops.Unfetched of fault) status cause (inr h) lines =
-    early_four name tells rose file vt vr old ot or before after status h.0 (record { of = name; named = refl; stop = stops.Unfetched of fault; cause = cause; status_is = refl; line = h.1 }) lines
-stopped_by name tells rose file vt vr old ot or before after (stops.Faulty n) status cause (inr h) lines =
-    early_three name tells rose file vt vr old ot or before after status h.0 (record { of = name; named = refl; stop = stops.Faulty n; cause = cause; status_is = refl; line = h.1 }) lines
-stopped_by name tells rose file vt vr old ot or before after stops.NotPlain status cause (inr h) lines =
-    early_three name tells rose file vt vr old ot or before after status h.0 (record { of = name; named = refl; stop = stops.NotPlain; cause = cause; status_is = refl; line = h.1 }) lines
-stopped_by name tells rose file vt vr old ot or before after stops.NoMemory status cause (inr h) lines = early_memory name tells rose file vt vr old ot or before after status h.0 lines
+stopped_by : (name : List ℕ) (tells : Type 0) (faults : Count) (file : List ℕ → Option (List ℕ)) (vault_tells : Type 0) (vault_faults : Count) (old : List ℕ → Option (List ℕ)) (out_tells : Type 0) (out_faults : Count) (before after : List ℕ) (stop : Stop) (status : ℕ)
+    → StopHasCause tells file name (Rises faults) stop → (status ≡ 5) ⊎ ((status ≡ stop_status stop) × Puts out_tells (Rises out_faults) before after (stop_line stop)) → SaysTranscript (Some name) tells (Rises faults) file vault_tells vault_faults old out_tells before after
+    → Runs (Some name) tells faults file vault_tells vault_faults old old out_tells out_faults before after status
+stopped_by name tells faults file vt vf old ot outf before after stop status cause (inl memory) lines = early_memory name tells faults file vt vf old ot outf before after status memory lines
+stopped_by name tells faults file vt vf old ot outf before after (stops.Unfetched of fault) status cause (inr h) lines =
+    early_four name tells faults file vt vf old ot outf before after status h.0 (record { of = name; named = refl; stop = stops.Unfetched of fault; cause = cause; status_is = refl; line = h.1 }) lines
+stopped_by name tells faults file vt vf old ot outf before after (stops.Faulty n) status cause (inr h) lines =
+    early_three name tells faults file vt vf old ot outf before after status h.0 (record { of = name; named = refl; stop = stops.Faulty n; cause = cause; status_is = refl; line = h.1 }) lines
+stopped_by name tells faults file vt vf old ot outf before after (stops.FaultyClip fault) status cause (inr h) lines =
+    early_three name tells faults file vt vf old ot outf before after status h.0 (record { of = name; named = refl; stop = stops.FaultyClip fault; cause = cause; status_is = refl; line = h.1 }) lines
+stopped_by name tells faults file vt vf old ot outf before after stops.NoMemory status cause (inr h) lines = early_memory name tells faults file vt vf old ot outf before after status h.0 lines
 
 -- The session didn't start.
-pub run_stopped : (name : List ℕ) (tells rose : Type 0) (file : List ℕ → Option (List ℕ)) (vault_tells vault_rose : Type 0) (old : List ℕ → Option (List ℕ)) (out_tells out_rose : Type 0) (before after : List ℕ) (stop : Stop) (status : ℕ)
-    → StopHasCause tells file name rose stop → StopsWith out_tells out_rose before after (stop_line stop) (stop_status stop) status
-    → Runs (Some name) tells rose file vault_tells vault_rose old old out_tells out_rose before after status
-run_stopped name tells rose file vt vr old ot or before after stop status cause h =
-    stopped_by name tells rose file vt vr old ot or before after stop status cause h.ended (stop_line stop, inr (inl (name, refl, (stop, cause, refl))), h.said)
+pub run_stopped : (name : List ℕ) (tells : Type 0) (faults : Count) (file : List ℕ → Option (List ℕ)) (vault_tells : Type 0) (vault_faults : Count) (old : List ℕ → Option (List ℕ)) (out_tells : Type 0) (out_faults : Count) (before after : List ℕ) (stop : Stop) (status : ℕ)
+    → StopHasCause tells file name (Rises faults) stop → StopsWith out_tells (Rises out_faults) before after (stop_line stop) (stop_status stop) status
+    → Runs (Some name) tells faults file vault_tells vault_faults old old out_tells out_faults before after status
+run_stopped name tells faults file vt vf old ot outf before after stop status cause h =
+    stopped_by name tells faults file vt vf old ot outf before after stop status cause h.ended (stop_line stop, inr (inl (name, refl, (stop, cause, refl))), h.said)
 
 -- Playing has no other status than 0, 4 and 5.
 apart : {A : Type 0} (status other : ℕ) → (status ≡ 0) ⊎ ((status ≡ 4) ⊎ (status ≡ 5)) → (other ≡ 2) ⊎ (other ≡ 3) → status ≡ other → A
@@ -147,31 +152,33 @@ changes name tells file vt old new script bytes clip works inside own others tol
     at false e = inl (others told other (λ same. let yes : bytes_eq other script.export ≡ true = (bytes_eq-Decides other script.export).1 same in absurd (cc)))
 
 -- The script was played.
-pub run_played : (name : List ℕ) (tells rose : Type 0) (file : List ℕ → Option (List ℕ)) (vault_tells vault_rose : Type 0) (old new : List ℕ → Option (List ℕ)) (out_tells out_rose : Type 0) (before after : List ℕ)
-    (script : Form) (bytes : List ℕ) (clip : ClipIndex) (status : ℕ) → IsJob tells file name script bytes clip → Plays vault_tells vault_rose old new out_tells out_rose before after script bytes clip status
-    → Runs (Some name) tells rose file vault_tells vault_rose old new out_tells out_rose before after status
-run_played name tells rose file vt vr old new ot or before after script bytes clip status job (inl (inside, h)) =
+pub run_played : (name : List ℕ) (tells : Type 0) (faults : Count) (file : List ℕ → Option (List ℕ)) (vault_tells : Type 0) (vault_faults : Count) (old new : List ℕ → Option (List ℕ)) (out_tells : Type 0) (out_faults : Count) (before after : List ℕ)
+    (script : Form) (bytes : List ℕ) (clip : ClipIndex) (status : ℕ) → IsJob tells file name script bytes clip → IsCalm faults → Plays vault_tells vault_faults old new out_tells out_faults before after script bytes clip status
+    → Runs (Some name) tells faults file vault_tells vault_faults old new out_tells out_faults before after status
+run_played name tells faults file vt vf old new ot outf before after script bytes clip status job fetched (inl (inside, h)) =
     let works : Works (Some name) tells file script bytes clip = record { of = name; named = refl; job = job } in
     record {
       played = λ e. (script, bytes, clip, works, inl (inside, (h.done e).0, (h.done e).1));
+      calm = λ e. (fetched, (h.calm e).0, (h.calm e).1);
       misused = λ e. apart status 2 h.no_other (inl refl) e;
       faulty = λ e. apart status 3 h.no_other (inr refl) e;
       outside = λ e. elim (h.failed e) [
-        | inl r ↦ inl r
+        | inl r ↦ inl (record { script = script; bytes = bytes; clip = clip; works = works; rose = r })
         | inr v ↦ inr (inr (record { script = script; bytes = bytes; clip = clip; works = works; inside = inside; rose = v.0; lines = v.1 }))
       ];
       no_other = one_of status h.no_other;
       usage = λ e. named name e;
       files = changes name tells file vt old new script bytes clip works inside h.file h.files;
-      lines = (export_lines script.len h.said.0, inr (inr (script, bytes, clip, works, inl (inside, (h.said.0, refl)))), h.said.1);
+      lines = (export_lines script.len h.said.0, inr (inr (script, bytes, clip, works, inl (inside, (h.said.0, h.said.1, refl)))), h.said.2);
     }
-run_played name tells rose file vt vr old new ot or before after script bytes clip status job (inr (outside, h, files)) =
+run_played name tells faults file vt vf old new ot outf before after script bytes clip status job fetched (inr (outside, h, vault_calm, files)) =
     let works : Works (Some name) tells file script bytes clip = record { of = name; named = refl; job = job } in
     record {
       played = λ e. (script, bytes, clip, works, inr (outside, h.done e, files));
+      calm = λ e. (fetched, vault_calm, h.calm e);
       misused = λ e. apart status 2 h.no_other (inl refl) e;
       faulty = λ e. apart status 3 h.no_other (inr refl) e;
-      outside = λ e. inl (h.failed e);
+      outside = λ e. inl (record { script = script; bytes = bytes; clip = clip; works = works; rose = h.failed e });
       no_other = one_of status h.no_other;
       usage = λ e. named name e;
       files = λ told other. inl (files told other);

@@ -3,6 +3,8 @@ use Rattle.std.specs.Prelude.{ℕ, List, [], ◌∷◌, ◌++◌, codes}
 use Rattle.std.specs.Fmt.{decimal}
 use Rattle.tl_ports.specs.declared.fault.FetchFault.{FetchFault}
 use Rattle.tl_ports.specs.declared.fault.FetchFault.TheVariants as fetching
+use Rattle.mkv_read.specs.declared.fault.ClipFault.{ClipFault}
+use Rattle.mkv_read.specs.declared.fault.ClipFault.TheVariants as clips
 
 abbrev pub line : List ℕ → List ℕ
 line text = text ++ 10 ∷ []
@@ -33,9 +35,23 @@ refused_lines = line (codes "refused OutsideClip") ++ line (codes "refused Empty
 unfoldable pub fault_line : (n : ℕ) → List ℕ
 fault_line n = codes "fault line " ++ (decimal n ++ line (codes " Later"))
 
--- the clip of the script's second line isn't a plain file
-unfoldable pub clip_fault_line : List ℕ
-clip_fault_line = line (codes "fault line 2 clip Later")
+-- the fault of a clip, by its name
+abbrev pub clip_kind_of : ClipFault → List ℕ
+clip_kind_of (clips.Ebml at) = codes "Ebml"
+clip_kind_of clips.DocType = codes "DocType"
+clip_kind_of clips.NoTrack = codes "NoTrack"
+clip_kind_of clips.Codec = codes "Codec"
+clip_kind_of clips.NoPrivate = codes "NoPrivate"
+clip_kind_of clips.Encoded = codes "Encoded"
+clip_kind_of (clips.Limit which) = codes "Limit"
+clip_kind_of (clips.Laced at) = codes "Laced"
+clip_kind_of (clips.TimeOrder at) = codes "TimeOrder"
+clip_kind_of clips.NoFrames = codes "NoFrames"
+clip_kind_of clips.NoMemory = codes "NoMemory"
+
+-- the clip of the script's second line has this fault
+unfoldable pub clip_fault_line : ClipFault → List ℕ
+clip_fault_line fault = codes "fault line 2 clip " ++ line (clip_kind_of fault)
 
 -- a file wasn't fetched
 abbrev pub kind_of : FetchFault → List ℕ

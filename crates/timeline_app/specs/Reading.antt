@@ -1,9 +1,8 @@
 -- What the script's reader answers, beside the definition of the form.
-use Rattle.std.specs.Prelude.{◌≡◌, ℕ, List, map, Result, Ok, Err, string_bytes}
+use Rattle.std.specs.Prelude.{◌≡◌, ℕ, List, Result, Ok, Err, string_bytes}
 use Rattle.timeline_app.specs.declared.script.Script.{Script}
 use Rattle.timeline_app.specs.declared.script.ScriptRefusal.{ScriptRefusal}
 use Rattle.timeline_app.specs.declared.script.ScriptRefusal.TheVariants.{Fault, NoMemory}
-use Rattle.timeline_app.specs.declared.script.ScriptFault.{ScriptFault}
 use Rattle.timeline_app.specs.Script.{Form}
 
 -- a script without where it lies in memory

@@ -1,12 +1,13 @@
 -- What a run does: what it works on, what it puts out, and which status has which cause.
-use Rattle.std.specs.Prelude.{◌≡◌, ◌≢◌, ◌⊎◌, ℕ, ◌<◌, ◌≤◌, Bool, true, false, not, ◌==◌, if◌then◌else◌, List, [], ◌∷◌, ◌++◌, length, map, take, drop, slice_index, Option, Some, None, Result, Ok, Err, string_bytes}
+use Rattle.std.specs.Prelude.{◌≡◌, ◌⊎◌, ℕ, ◌<◌, ◌≤◌, ◌==◌, if◌then◌else◌, List, [], ◌∷◌, ◌++◌, length, map, take, drop, slice_index, Option, Some, None, Result, Ok, Err, string_bytes}
 use Rattle.std.specs.List.{AllByRecursion}
 use Rattle.tl_ports.specs.declared.fault.FetchFault.{FetchFault}
 use Rattle.tl_ports.specs.declared.fault.FetchFault.TheVariants as fetching
-use Rattle.tl_ports.specs.Outside.{Rose, KeepsOthers}
+use Rattle.tl_ports.specs.Outside.{Rose, KeepsOthers, IsToldOr, IsLonger}
 use Rattle.mkv_read.specs.declared.clip.ClipIndex.{ClipIndex}
 use Rattle.mkv_read.specs.declared.clip.Place.{Place}
-use Rattle.mkv_read.specs.Plain.{IsPlainFile, LiesBefore}
+use Rattle.mkv_read.specs.Clip.{clip_of, IsWithinLimits}
+use Rattle.mkv_read.specs.Plain.{LiesBefore}
 use Rattle.tl_ports.specs.declared.fault.PutFault.{PutFault}
 use Rattle.tl_ports.specs.declared.fault.PutFault.TheVariants as putting
 use Rattle.mkv_write.specs.declared.fault.WriteFault.{WriteFault}
@@ -18,19 +19,37 @@ use Rattle.timeline_app.specs.declared.export.Ending.{Ending}
 use Rattle.timeline_app.specs.declared.export.Ending.TheVariants as endings
 use Rattle.timeline_app.specs.declared.stop.Stop.{Stop}
 use Rattle.timeline_app.specs.declared.stop.Stop.TheVariants as stops
-use Rattle.timeline_app.specs.declared.job.TheConstants.{SCRIPT_LIMIT, CLIP_LIMIT}
 use Rattle.timeline_app.specs.Script.{Form, script_of}
 use Rattle.timeline_app.specs.Reading.{view}
-use Rattle.timeline_app.specs.Lines.{usage_line, ok_line, asked_line, done_line, sink_line, refused_lines, fault_line, clip_fault_line, store_line, memory_line, export_memory_line}
+use Rattle.timeline_app.specs.Lines.{ok_line, asked_line, done_line, sink_line, refused_lines, fault_line, clip_fault_line, store_line, memory_line, export_memory_line}
+
+-- A count of faults, before and after.
+abbrev pub Count : Type 0
+Count = ℕ × ℕ
+
+-- It rose, or stands at the last value of a 64-bit counter.
+abbrev pub Rises : Count → Type 0
+Rises count = Rose count.0 count.1
+
+abbrev pub IsCalm : Count → Type 0
+IsCalm count = count.1 ≡ count.0
+
+-- The most bytes of a script, 16 MiB, and of a clip, 2 GiB.
+abbrev pub script_limit : ℕ
+script_limit = 16777216
+
+abbrev pub clip_limit : ℕ
+clip_limit = 2147483648
 
 -- The name of the script: the words are of the form where there is one, which doesn't begin with `-`.
 unfoldable pub script_name : List (List ℕ) → Option (List ℕ)
 script_name (word ∷ []) = if slice_index word 0 == 45 then None else Some word
 script_name other = None
 
--- The record and the packets lie within the file, which isn't too large.
-pub record PlacesLie (bytes : List ℕ) (clip : ClipIndex) : Type 0 where
-  pub size : length bytes ≤ CLIP_LIMIT
+-- The clip is within its limits, and its record and its packets lie within the file, which isn't too large.
+pub record IsSound (bytes : List ℕ) (clip : ClipIndex) : Type 0 where
+  pub size : length bytes ≤ clip_limit
+  pub limits : IsWithinLimits clip
   pub private : LiesBefore (length bytes) clip.private
   pub packets : AllByRecursion (LiesBefore (length bytes)) clip.packets
 
@@ -38,39 +57,40 @@ pub record PlacesLie (bytes : List ℕ) (clip : ClipIndex) : Type 0 where
 abbrev pub bytes_at : List ℕ → Place → List ℕ
 bytes_at bytes place = take place.len (drop place.from bytes)
 
+-- These bytes were fetched as a file that is within the limit, and are what is told of it.
+pub record IsFetched (tells : Type 0) (kept : Option (List ℕ)) (limit : ℕ) (bytes : List ℕ) : Type 0 where
+  pub told : tells → kept ≡ Some bytes
+  pub size : length bytes ≤ limit
+
 -- A script of the form was fetched.
 pub record IsScript (tells : Type 0) (file : List ℕ → Option (List ℕ)) (name : List ℕ) (script : Form) : Type 0 where
   pub text : List ℕ
-  pub fetched : tells → file name ≡ Some text
+  pub fetched : IsFetched tells (file name) script_limit text
   pub form : script_of text ≡ Ok script
 
--- A script of the form was fetched, and its clip, a plain file.
+-- A script of the form was fetched, and a file that holds its clip.
 pub record IsJob (tells : Type 0) (file : List ℕ → Option (List ℕ)) (name : List ℕ) (script : Form) (bytes : List ℕ) (clip : ClipIndex) : Type 0 where
   pub read : IsScript tells file name script
-  pub fetched : tells → file script.file ≡ Some bytes
-  pub plain : IsPlainFile bytes clip
+  pub fetched : IsFetched tells (file script.file) clip_limit bytes
+  pub holds : clip_of bytes ≡ Ok clip
 
 -- The frames lie within the clip.
 abbrev pub IsInside : Form → ClipIndex → Type 0
 IsInside script clip = script.len ≤ length clip.packets
 
--- The exported file over so many of the clip's first packets, byte for byte, at the script's rate.
-abbrev pub export_over : (count : ℕ) → Form → List ℕ → ClipIndex → List ℕ
-export_over count script bytes clip = mkv (bytes_at bytes clip.private) clip.width clip.height script.rate (map (bytes_at bytes) (take count clip.packets))
-
--- The exported file.
+-- The exported file: the clip's first packets, byte for byte, at the script's rate.
 abbrev pub export_of : Form → List ℕ → ClipIndex → List ℕ
-export_of script = export_over script.len script
+export_of script bytes clip = mkv (bytes_at bytes clip.private) clip.width clip.height script.rate (map (bytes_at bytes) (take script.len clip.packets))
 
--- Some front of the file over some of those packets.
+-- Some front of it.
 abbrev pub IsPartial : List ℕ → Form → List ℕ → ClipIndex → Type 0
-IsPartial held script bytes clip = (count : ℕ) × (count ≤ script.len) × IsPrefix held (export_over count script bytes clip)
+IsPartial held script bytes clip = IsPrefix held (export_of script bytes clip)
 
 -- A fetch that was refused has its cause: the count rose, or the told store lacks the file or holds more of it than the limit.
 abbrev pub IsUnfetched : (tells : Type 0) (kept : Option (List ℕ)) (limit : ℕ) (rose : Type 0) → FetchFault → Type 0
 IsUnfetched tells kept limit rose fetching.Failed = rose
-IsUnfetched tells kept limit rose fetching.Missing = rose ⊎ (tells × (kept ≡ None))
-IsUnfetched tells kept limit rose (fetching.TooLarge told) = rose ⊎ (tells × ((text : List ℕ) × (kept ≡ Some text) × (limit < length text)))
+IsUnfetched tells kept limit rose fetching.Missing = IsToldOr tells (kept ≡ None) rose
+IsUnfetched tells kept limit rose (fetching.TooLarge told) = IsToldOr tells (IsLonger kept limit) rose
 IsUnfetched tells kept limit rose fetching.NoMemory = ⊥
 
 -- The script's text was read: it is of the form, or this line of it isn't.
@@ -78,13 +98,13 @@ abbrev pub ReadsScript : (text : List ℕ) → Result Script Stop → Type 0
 ReadsScript text (Ok script) = script_of text ≡ Ok (view script)
 ReadsScript text (Err (stops.Faulty n)) = script_of text ≡ Err n
 ReadsScript text (Err stops.NoMemory) = Unit {0}
-ReadsScript text (Err stops.NotPlain) = ⊥
+ReadsScript text (Err (stops.FaultyClip fault)) = ⊥
 ReadsScript text (Err (stops.Unfetched name fault)) = ⊥
 
--- The clip's bytes were read: they are a plain file, or none.
+-- The clip's bytes were read: they hold a clip, or have this fault.
 abbrev pub ReadsClip : (bytes : List ℕ) → Result ClipIndex Stop → Type 0
-ReadsClip bytes (Ok clip) = IsPlainFile bytes clip
-ReadsClip bytes (Err stops.NotPlain) = (clip : ClipIndex) → IsPlainFile bytes clip → ⊥
+ReadsClip bytes (Ok clip) = clip_of bytes ≡ Ok clip
+ReadsClip bytes (Err (stops.FaultyClip fault)) = clip_of bytes ≡ Err fault
 ReadsClip bytes (Err stops.NoMemory) = Unit {0}
 ReadsClip bytes (Err (stops.Faulty n)) = ⊥
 ReadsClip bytes (Err (stops.Unfetched name fault)) = ⊥
@@ -94,37 +114,37 @@ abbrev pub IsUnfetchedStop : (tells : Type 0) (kept : Option (List ℕ)) (name :
 IsUnfetchedStop tells kept name limit rose (stops.Unfetched of fault) = (string_bytes of ≡ name) × IsUnfetched tells kept limit rose fault
 IsUnfetchedStop tells kept name limit rose stops.NoMemory = Unit {0}
 IsUnfetchedStop tells kept name limit rose (stops.Faulty n) = ⊥
-IsUnfetchedStop tells kept name limit rose stops.NotPlain = ⊥
+IsUnfetchedStop tells kept name limit rose (stops.FaultyClip fault) = ⊥
 
--- The clip's file of this name wasn't fetched, or it was and isn't a plain file.
+-- The clip's file of this name wasn't fetched, or it was and has this fault.
 abbrev pub IsClipStop : (tells : Type 0) (kept : Option (List ℕ)) (name : List ℕ) (rose : Type 0) → Stop → Type 0
-IsClipStop tells kept name rose (stops.Unfetched of fault) = (string_bytes of ≡ name) × IsUnfetched tells kept CLIP_LIMIT rose fault
-IsClipStop tells kept name rose stops.NotPlain = (bytes : List ℕ) × (tells → kept ≡ Some bytes) × ((clip : ClipIndex) → IsPlainFile bytes clip → ⊥)
+IsClipStop tells kept name rose (stops.Unfetched of fault) = (string_bytes of ≡ name) × IsUnfetched tells kept clip_limit rose fault
+IsClipStop tells kept name rose (stops.FaultyClip fault) = (bytes : List ℕ) × IsFetched tells kept clip_limit bytes × (clip_of bytes ≡ Err fault)
 IsClipStop tells kept name rose stops.NoMemory = Unit {0}
 IsClipStop tells kept name rose (stops.Faulty n) = ⊥
 
 -- A session that doesn't start has its cause: the script or, where it is of the form, its clip wasn't fetched; the script was fetched and
--- isn't of the form; or it is, and the clip was fetched and isn't a plain file.
+-- isn't of the form; or it is, and the clip was fetched and has a fault.
 abbrev pub StopHasCause : (tells : Type 0) (file : List ℕ → Option (List ℕ)) (name : List ℕ) (rose : Type 0) → Stop → Type 0
 StopHasCause tells file name rose (stops.Unfetched of fault) =
-    ((string_bytes of ≡ name) × IsUnfetched tells (file name) SCRIPT_LIMIT rose fault)
+    ((string_bytes of ≡ name) × IsUnfetched tells (file name) script_limit rose fault)
     ⊎ ((script : Form) × IsScript tells file name script × IsClipStop tells (file script.file) script.file rose (stops.Unfetched of fault))
-StopHasCause tells file name rose (stops.Faulty n) = (text : List ℕ) × (tells → file name ≡ Some text) × (script_of text ≡ Err n)
-StopHasCause tells file name rose stops.NotPlain =
-    (script : Form) × IsScript tells file name script × IsClipStop tells (file script.file) script.file rose stops.NotPlain
+StopHasCause tells file name rose (stops.Faulty n) = (text : List ℕ) × IsFetched tells (file name) script_limit text × (script_of text ≡ Err n)
+StopHasCause tells file name rose (stops.FaultyClip fault) =
+    (script : Form) × IsScript tells file name script × IsClipStop tells (file script.file) script.file rose (stops.FaultyClip fault)
 StopHasCause tells file name rose stops.NoMemory = Unit {0}
 
 -- The line that says why a session doesn't start.
 abbrev pub stop_line : Stop → List ℕ
 stop_line (stops.Unfetched name fault) = store_line (string_bytes name) fault
 stop_line (stops.Faulty n) = fault_line n
-stop_line stops.NotPlain = clip_fault_line
+stop_line (stops.FaultyClip fault) = clip_fault_line fault
 stop_line stops.NoMemory = memory_line
 
 abbrev pub stop_status : Stop → ℕ
 stop_status (stops.Unfetched name fault) = 4
 stop_status (stops.Faulty n) = 3
-stop_status stops.NotPlain = 3
+stop_status (stops.FaultyClip fault) = 3
 stop_status stops.NoMemory = 5
 
 -- A writer of the clip's record and size at the script's rate, before any packet.
@@ -135,21 +155,26 @@ started_over script bytes clip = nothing_yet (bytes_at bytes clip.private) clip.
 abbrev pub with_packets : Writing → List (List ℕ) → Writing
 with_packets w packets = record w { packets = w.packets ++ packets }
 
--- The packets were given to the writer, or after a fault some front of the file over some of them was put.
+-- The packets were given to the writer, or after a fault some front of the file over them was put.
 abbrev pub AddsPackets : (tells : Type 0) (held : List ℕ) → Writing → List (List ℕ) → Result Unit WriteFault → Type 0
 AddsPackets tells held w packets (Ok done) = tells → held ≡ put_of (with_packets w packets)
-AddsPackets tells held w packets (Err fault) = tells → (count : ℕ) × (count ≤ length packets) × IsPrefix held (file_of (with_packets w (take count packets)))
+AddsPackets tells held w packets (Err fault) = tells → IsPrefix held (file_of (with_packets w packets))
 
--- The packets of a clip were written, whole, or after a fault some front of the file over some of them.
+-- The packets of a clip were written, whole, or after a fault some front of the file.
 abbrev pub WritesExport : (tells : Type 0) (held : List ℕ) → Form → List ℕ → ClipIndex → Result ℕ WriteFault → Type 0
 WritesExport tells held script bytes clip (Ok frames) = (frames ≡ script.len) × (tells → held ≡ export_of script bytes clip)
 WritesExport tells held script bytes clip (Err fault) = tells → IsPartial held script bytes clip
 
--- How an export ended: the file is whole; or the vault's count rose, or memory ran out.
-abbrev pub EndsExport : (tells : Type 0) (file : List ℕ → Option (List ℕ)) (rose : Type 0) → Form → List ℕ → ClipIndex → Ending → Type 0
-EndsExport tells file rose script bytes clip (endings.Done frames) = (frames ≡ script.len) × (tells → file script.export ≡ Some (export_of script bytes clip))
-EndsExport tells file rose script bytes clip endings.Sink = rose
-EndsExport tells file rose script bytes clip endings.NoMemory = Unit {0}
+-- The export's file holds some front of it.
+abbrev pub HoldsPartial : (tells : Type 0) (file : List ℕ → Option (List ℕ)) → Form → List ℕ → ClipIndex → Type 0
+HoldsPartial tells file script bytes clip = tells → (held : List ℕ) × (file script.export ≡ Some held) × IsPartial held script bytes clip
+
+-- How an export ended: the file is whole, and the vault had no fault; or its count rose; or memory ran out, before the file was begun,
+-- without a fault, or later.
+abbrev pub EndsExport : (tells : Type 0) (file : List ℕ → Option (List ℕ)) (faults : Count) → Form → List ℕ → ClipIndex → Ending → Type 0
+EndsExport tells file faults script bytes clip (endings.Done frames) = (frames ≡ script.len) × (tells → file script.export ≡ Some (export_of script bytes clip)) × IsCalm faults
+EndsExport tells file faults script bytes clip endings.Sink = Rises faults
+EndsExport tells file faults script bytes clip endings.NoMemory = IsCalm faults ⊎ HoldsPartial tells file script bytes clip
 
 -- A fault of the writing stands before one of the file's end.
 abbrev pub ending_of : Result ℕ WriteFault → Result Unit PutFault → Ending
@@ -159,19 +184,19 @@ ending_of (Ok frames) (Ok done) = endings.Done frames
 ending_of (Ok frames) (Err putting.Failed) = endings.Sink
 ending_of (Ok frames) (Err putting.NoMemory) = endings.NoMemory
 
--- The export's file is as before, or it holds some front of the file over some packets.
+-- The export's file is as before, or it holds some front of the export.
 abbrev pub ChangesExport : (tells : Type 0) (old new : Option (List ℕ)) → Form → List ℕ → ClipIndex → Type 0
 ChangesExport tells old new script bytes clip = tells → (new ≡ old) ⊎ ((held : List ℕ) × (new ≡ Some held) × IsPartial held script bytes clip)
-
--- A text was put, whole, or some front of it where the count rose or memory ran out.
-abbrev pub Says : (tells : Type 0) (before after text : List ℕ) (rose : Type 0) → Result Unit PutFault → Type 0
-Says tells before after text rose (Ok done) = tells → after ≡ before ++ text
-Says tells before after text rose (Err putting.Failed) = rose × (tells → (count : ℕ) × (after ≡ before ++ take count text))
-Says tells before after text rose (Err putting.NoMemory) = tells → (count : ℕ) × (after ≡ before ++ take count text)
 
 -- Some front of a text was put.
 abbrev pub PutsFront : (tells : Type 0) (before after text : List ℕ) → Type 0
 PutsFront tells before after text = tells → (count : ℕ) × (after ≡ before ++ take count text)
+
+-- A text was put, whole, or some front of it where the count rose or memory ran out.
+abbrev pub Says : (tells : Type 0) (before after text : List ℕ) (faults : Count) → Result Unit PutFault → Type 0
+Says tells before after text faults (Ok done) = (tells → after ≡ before ++ text) × IsCalm faults
+Says tells before after text faults (Err putting.Failed) = Rises faults × PutsFront tells before after text
+Says tells before after text faults (Err putting.NoMemory) = IsCalm faults × PutsFront tells before after text
 
 -- The line that says how the export ended.
 abbrev pub ending_line : Ending → List ℕ
@@ -199,32 +224,35 @@ ending_status endings.Sink = 4
 ending_status endings.NoMemory = 5
 
 -- What an export did that was asked for, by the status. `lines` is what `out` was to get, by how the export ended.
-pub record PlaysExport (vault_tells vault_rose : Type 0) (old new : List ℕ → Option (List ℕ)) (out_tells out_rose : Type 0) (before after : List ℕ)
+pub record PlaysExport (vault_tells : Type 0) (vault_faults : Count) (old new : List ℕ → Option (List ℕ)) (out_tells : Type 0) (out_faults : Count) (before after : List ℕ)
     (lines : Ending → List ℕ) (script : Form) (bytes : List ℕ) (clip : ClipIndex) (status : ℕ) : Type 0 where
   -- every line was put, and the file is whole
   pub done : status ≡ 0 → (out_tells → after ≡ before ++ lines (endings.Done script.len)) × (vault_tells → new script.export ≡ Some (export_of script bytes clip))
+  -- and there was no fault
+  pub calm : status ≡ 0 → IsCalm vault_faults × IsCalm out_faults
   -- `out` failed; or the vault did, and `out` says so
-  pub failed : status ≡ 4 → out_rose ⊎ (vault_rose × (out_tells → after ≡ before ++ lines endings.Sink))
+  pub failed : status ≡ 4 → Rises out_faults ⊎ (Rises vault_faults × (out_tells → after ≡ before ++ lines endings.Sink))
   pub no_other : (status ≡ 0) ⊎ ((status ≡ 4) ⊎ (status ≡ 5))
   -- whatever the status, the file is as before or holds some front of the export, and no other changed
   pub file : ChangesExport vault_tells (old script.export) (new script.export) script bytes clip
   pub files : KeepsOthers vault_tells script.export old new
-  -- and `out` got some front of the lines
-  pub said : (ending : Ending) × PutsFront out_tells before after (lines ending)
+  -- and `out` got some front of the lines, which say how the export ended
+  pub said : (ending : Ending) × EndsExport vault_tells new vault_faults script bytes clip ending × PutsFront out_tells before after (lines ending)
 
 -- What an insert past the clip's end did, by the status: it was refused, and nothing was exported.
-pub record PlaysRefusal (out_tells out_rose : Type 0) (before after : List ℕ) (status : ℕ) : Type 0 where
+pub record PlaysRefusal (out_tells : Type 0) (out_faults : Count) (before after : List ℕ) (status : ℕ) : Type 0 where
   pub done : status ≡ 0 → out_tells → after ≡ before ++ refused_lines
-  pub failed : status ≡ 4 → out_rose
+  pub calm : status ≡ 0 → IsCalm out_faults
+  pub failed : status ≡ 4 → Rises out_faults
   pub no_other : (status ≡ 0) ⊎ ((status ≡ 4) ⊎ (status ≡ 5))
   pub said : PutsFront out_tells before after refused_lines
 
 -- What playing a script did, by the status: its frames lie within the clip and it was exported, or they don't and it was refused.
-abbrev pub Plays : (vault_tells vault_rose : Type 0) (old new : List ℕ → Option (List ℕ)) (out_tells out_rose : Type 0) (before after : List ℕ)
+abbrev pub Plays : (vault_tells : Type 0) (vault_faults : Count) (old new : List ℕ → Option (List ℕ)) (out_tells : Type 0) (out_faults : Count) (before after : List ℕ)
     (script : Form) (bytes : List ℕ) (clip : ClipIndex) (status : ℕ) → Type 0
-Plays vault_tells vault_rose old new out_tells out_rose before after script bytes clip status =
-    (IsInside script clip × PlaysExport vault_tells vault_rose old new out_tells out_rose before after (export_lines script.len) script bytes clip status)
-    ⊎ ((length clip.packets < script.len) × PlaysRefusal out_tells out_rose before after status × (vault_tells → (name : List ℕ) → new name ≡ old name))
+Plays vault_tells vault_faults old new out_tells out_faults before after script bytes clip status =
+    (IsInside script clip × PlaysExport vault_tells vault_faults old new out_tells out_faults before after (export_lines script.len) script bytes clip status)
+    ⊎ ((length clip.packets < script.len) × PlaysRefusal out_tells out_faults before after status × IsCalm vault_faults × (vault_tells → (name : List ℕ) → new name ≡ old name))
 
 -- A text was put, whole, or some front of it where the count rose.
 abbrev pub Puts : (tells rose : Type 0) (before after text : List ℕ) → Type 0

@@ -1,9 +1,8 @@
 -- The script: its lines, their words, and the one form that is played so far.
-use Rattle.std.specs.Prelude.{◌≡◌, ℕ, ◌+◌, ◌-◌, ◌*◌, Bool, true, false, ◌&&◌, ◌||◌, not, ◌==◌, nat_lt, nat_le, is_some, if◌then◌else◌, List, [], ◌∷◌, length, take, fold, filter, map, codes, Option, Some, None, option_map, Result, Ok, Err, slice_get}
+use Rattle.std.specs.Prelude.{ℕ, ◌+◌, ◌-◌, ◌*◌, Bool, ◌&&◌, ◌||◌, not, ◌==◌, nat_lt, nat_le, is_some, if◌then◌else◌, List, [], ◌∷◌, length, fold, filter, map, codes, Option, Some, None, option_map, Result, Ok, Err}
 use Rattle.std.specs.List.{slice_split, list_all}
 use Rattle.std.specs.Char.{is_ascii_digit}
 use Rattle.std.specs.Str.{bytes_eq, is_utf8}
-use Rattle.timeline_app.specs.declared.script.TheConstants.{MAX_RATE, MAX_FRAMES}
 use Rattle.bstr.specs.Text.{lines_of, without_terminator}
 
 -- The lines of a text. A line ends with a line feed; a carriage return before it is dropped; a last piece without one is a line unless it is empty.
@@ -30,7 +29,7 @@ number low high word =
 
 -- `rate R`, whole frames per second from 1 to 240
 unfoldable pub rate_line : List (List ℕ) → Option ℕ
-rate_line (keyword ∷ rate ∷ []) = if bytes_eq keyword (codes "rate") then number 1 MAX_RATE rate else None
+rate_line (keyword ∷ rate ∷ []) = if bytes_eq keyword (codes "rate") then number 1 240 rate else None
 rate_line other = None
 
 -- A name is UTF-8.
@@ -51,7 +50,7 @@ format_line name other = None
 -- `insert 0 NAME 0 LEN`, of the clip's name, 1 to 1,000,000 frames
 unfoldable pub insert_line : (name : List ℕ) → List (List ℕ) → Option ℕ
 insert_line name (keyword ∷ at ∷ of ∷ first ∷ len ∷ []) =
-    if (bytes_eq keyword (codes "insert") && bytes_eq of name) && (is_some (number 0 0 at) && is_some (number 0 0 first)) then number 1 MAX_FRAMES len else None
+    if (bytes_eq keyword (codes "insert") && bytes_eq of name) && (is_some (number 0 0 at) && is_some (number 0 0 first)) then number 1 1000000 len else None
 insert_line name other = None
 
 -- `export FILE`

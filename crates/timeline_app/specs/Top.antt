@@ -1,14 +1,16 @@
 -- What the top call's statuses say of the run.
-use Rattle.std.specs.Prelude.{◌≡◌, ◌⊎◌, ℕ, ◌<◌, List, ◌++◌, length, Option, None, Some}
+use Rattle.std.specs.Prelude.{◌≡◌, ◌⊎◌, ℕ, ◌<◌, ◌≤◌, List, ◌++◌, length, Option, None, Some, Ok, Err}
 use Rattle.mkv_read.specs.declared.clip.ClipIndex.{ClipIndex}
 use Rattle.timeline_app.specs.declared.export.Ending.{Ending}
 use Rattle.timeline_app.specs.declared.export.Ending.TheVariants as endings
 use Rattle.timeline_app.specs.declared.stop.Stop.{Stop}
-use Rattle.timeline_app.specs.Script.{Form}
+use Rattle.mkv_read.specs.declared.fault.ClipFault.{ClipFault}
+use Rattle.mkv_read.specs.Clip.{clip_of}
+use Rattle.timeline_app.specs.Script.{Form, script_of}
 use Rattle.timeline_app.specs.Lines.{usage_line, refused_lines}
-use Rattle.timeline_app.specs.Run.{IsJob, IsInside, IsPartial, export_of, export_lines, StopHasCause, stop_line, stop_status, Puts, PutsFront}
+use Rattle.timeline_app.specs.Run.{Count, Rises, IsCalm, script_limit, clip_limit, IsJob, IsInside, IsPartial, EndsExport, export_of, export_lines, StopHasCause, stop_line, stop_status, Puts, PutsFront}
 
--- A script of the form and its clip, a plain file, were fetched, of the name that the words give.
+-- A script of the form and a file with its clip were fetched, of the name that the words give.
 pub record Works (name : Option (List ℕ)) (tells : Type 0) (file : List ℕ → Option (List ℕ)) (script : Form) (bytes : List ℕ) (clip : ClipIndex) : Type 0 where
   pub of : List ℕ
   pub named : name ≡ Some of
@@ -30,6 +32,14 @@ pub record Stopped (status : ℕ) (name : Option (List ℕ)) (tells rose : Type 
   pub status_is : stop_status stop ≡ status
   pub line : Puts out_tells out_rose before after (stop_line stop)
 
+-- The script was played, and `out` failed.
+pub record Unsaid (name : Option (List ℕ)) (tells : Type 0) (file : List ℕ → Option (List ℕ)) (out_rose : Type 0) : Type 0 where
+  pub script : Form
+  pub bytes : List ℕ
+  pub clip : ClipIndex
+  pub works : Works name tells file script bytes clip
+  pub rose : out_rose
+
 -- The export failed, and `out` says so: the vault's count rose.
 pub record Unsunk (name : Option (List ℕ)) (tells : Type 0) (file : List ℕ → Option (List ℕ)) (vault_rose out_tells : Type 0) (before after : List ℕ) : Type 0 where
   pub script : Form
@@ -46,26 +56,37 @@ ChangesOnlyExport name tells file vault_tells old new = vault_tells → (other :
     ⊎ ((script : Form) × (bytes : List ℕ) × (clip : ClipIndex) × Works name tells file script bytes clip × IsInside script clip × (other ≡ script.export)
     × ((held : List ℕ) × (new other ≡ Some held) × IsPartial held script bytes clip))
 
--- What `out` was to get: the usage line; the line that says why the session doesn't start; the lines of the insert and of the export, by how that ended; or both refusals.
-abbrev pub IsTranscript : (name : Option (List ℕ)) (tells rose : Type 0) (file : List ℕ → Option (List ℕ)) (text : List ℕ) → Type 0
-IsTranscript name tells rose file text =
+-- What `out` was to get: the usage line; the line that says why the session doesn't start; the lines of the insert and of the export, which say how that ended; or both refusals.
+abbrev pub IsTranscript : (name : Option (List ℕ)) (tells rose : Type 0) (file : List ℕ → Option (List ℕ)) (vault_tells : Type 0) (vault_faults : Count) (new : List ℕ → Option (List ℕ)) (text : List ℕ) → Type 0
+IsTranscript name tells rose file vault_tells vault_faults new text =
     ((name ≡ None) × (text ≡ usage_line))
     ⊎ (((of : List ℕ) × (name ≡ Some of) × ((stop : Stop) × StopHasCause tells file of rose stop × (text ≡ stop_line stop)))
     ⊎ ((script : Form) × (bytes : List ℕ) × (clip : ClipIndex) × Works name tells file script bytes clip
-    × ((IsInside script clip × ((ending : Ending) × (text ≡ export_lines script.len ending))) ⊎ ((length clip.packets < script.len) × (text ≡ refused_lines)))))
+    × ((IsInside script clip × ((ending : Ending) × EndsExport vault_tells new vault_faults script bytes clip ending × (text ≡ export_lines script.len ending))) ⊎ ((length clip.packets < script.len) × (text ≡ refused_lines)))))
 
 -- Whatever the status, `out` got some front of that.
-abbrev pub SaysTranscript : (name : Option (List ℕ)) (tells rose : Type 0) (file : List ℕ → Option (List ℕ)) (out_tells : Type 0) (before after : List ℕ) → Type 0
-SaysTranscript name tells rose file out_tells before after = (text : List ℕ) × IsTranscript name tells rose file text × PutsFront out_tells before after text
+abbrev pub SaysTranscript : (name : Option (List ℕ)) (tells rose : Type 0) (file : List ℕ → Option (List ℕ)) (vault_tells : Type 0) (vault_faults : Count) (new : List ℕ → Option (List ℕ))
+    (out_tells : Type 0) (before after : List ℕ) → Type 0
+SaysTranscript name tells rose file vault_tells vault_faults new out_tells before after =
+    (text : List ℕ) × IsTranscript name tells rose file vault_tells vault_faults new text × PutsFront out_tells before after text
+
+-- The told script isn't of the form, or it is and its told clip has a fault; neither is over its limit.
+abbrev pub IsFaulty : (file : List ℕ → Option (List ℕ)) (name : List ℕ) → Type 0
+IsFaulty file name =
+    ((text : List ℕ) × (n : ℕ) × (file name ≡ Some text) × (length text ≤ script_limit) × (script_of text ≡ Err n))
+    ⊎ ((text bytes : List ℕ) × (script : Form) × (fault : ClipFault) × (file name ≡ Some text) × (length text ≤ script_limit) × (script_of text ≡ Ok script)
+    × (file script.file ≡ Some bytes) × (length bytes ≤ clip_limit) × (clip_of bytes ≡ Err fault))
 
 -- What a run did, by its status.
-pub record Runs (name : Option (List ℕ)) (tells rose : Type 0) (file : List ℕ → Option (List ℕ)) (vault_tells vault_rose : Type 0) (old new : List ℕ → Option (List ℕ))
-    (out_tells out_rose : Type 0) (before after : List ℕ) (status : ℕ) : Type 0 where
+pub record Runs (name : Option (List ℕ)) (tells : Type 0) (faults : Count) (file : List ℕ → Option (List ℕ)) (vault_tells : Type 0) (vault_faults : Count) (old new : List ℕ → Option (List ℕ))
+    (out_tells : Type 0) (out_faults : Count) (before after : List ℕ) (status : ℕ) : Type 0 where
   pub played : status ≡ 0 → (script : Form) × (bytes : List ℕ) × (clip : ClipIndex) × Works name tells file script bytes clip × Played vault_tells old new out_tells before after script bytes clip
-  pub misused : status ≡ 2 → (name ≡ None) × Puts out_tells out_rose before after usage_line
-  pub faulty : status ≡ 3 → Stopped 3 name tells rose file out_tells out_rose before after
-  pub outside : status ≡ 4 → out_rose ⊎ (Stopped 4 name tells rose file out_tells out_rose before after ⊎ Unsunk name tells file vault_rose out_tells before after)
+  pub calm : status ≡ 0 → IsCalm faults × IsCalm vault_faults × IsCalm out_faults
+  pub misused : status ≡ 2 → (name ≡ None) × Puts out_tells (Rises out_faults) before after usage_line
+  pub faulty : status ≡ 3 → Stopped 3 name tells (Rises faults) file out_tells (Rises out_faults) before after
+  pub outside : status ≡ 4 → Unsaid name tells file (Rises out_faults)
+      ⊎ (Stopped 4 name tells (Rises faults) file out_tells (Rises out_faults) before after ⊎ Unsunk name tells file (Rises vault_faults) out_tells before after)
   pub no_other : (status ≡ 0) ⊎ ((status ≡ 2) ⊎ ((status ≡ 3) ⊎ ((status ≡ 4) ⊎ (status ≡ 5))))
   pub usage : name ≡ None → (status ≡ 2) ⊎ (status ≡ 5)
   pub files : ChangesOnlyExport name tells file vault_tells old new
-  pub lines : SaysTranscript name tells rose file out_tells before after
+  pub lines : SaysTranscript name tells (Rises faults) file vault_tells vault_faults new out_tells before after

@@ -2,15 +2,15 @@
 
 ghost use Rattle.std.specs.Prelude.{◌≡◌, ◌≤◌, ◌<◌, ◌+◌, ◌++◌, ℕ, List, [], None, Some, IsSome, OnOk, Ok, Err, string_bytes, length, map, take};
 ghost use Rattle.std.specs.List.{AllByRecursion};
-ghost use Rattle.tl_ports.specs.Outside.{Rose, KeepsOthers, KeepsBegun};
-ghost use Rattle.mkv_read.specs.Plain.{IsPlainFile, LiesBefore};
+ghost use Rattle.tl_ports.specs.Outside.{KeepsOthers, KeepsBegun};
+ghost use Rattle.mkv_read.specs.Plain.{LiesBefore};
 ghost use Rattle.mkv_write.specs.Writing.{WriteHasCause, put_of};
 ghost use Rattle.timeline_app.specs.Reading.{view};
-ghost use Rattle.timeline_app.specs.Run.{IsInside, PlacesLie, bytes_at, with_packets, AddsPackets, WritesExport, EndsExport, ChangesExport, IsPartial, ending_of, started_over};
+ghost use Rattle.timeline_app.specs.Run.{IsInside, IsSound, bytes_at, with_packets, AddsPackets, WritesExport, EndsExport, ChangesExport, HoldsPartial, ending_of, started_over};
 
 use crate::job::Job;
 use mkv_read::{ClipIndex, Place};
-use mkv_write::{MkvWriter, WriteFault};
+use mkv_write::{MkvWriter, WriteFault, put_is_prefix};
 use std::alloc::Global;
 use tl_ports::{PutFault, Vault};
 
@@ -52,6 +52,7 @@ fn write_frames<V: Vault>(
     ensures kept { KeepsBegun V.tells V.begun V.file V.faults vault.old vault.new }
     ensures cause { WriteHasCause (V.faults vault.old) (V.faults vault.new) result }
 {
+    put_is_prefix();
     for place in places {
         match writer.frame(vault, bytes_at(bytes, place)) {
             Ok(()) => {}
@@ -65,13 +66,13 @@ fn write_frames<V: Vault>(
 fn write_packets<V: Vault>(alloc: Global, job: &Job, vault: &mut V) -> Result<u32, WriteFault>
     requires begun { IsSome (V.begun vault.old) }
     requires empty { V.tells → V.held vault.old ≡ [] }
-    requires plain { IsPlainFile job.now.bytes.items job.now.index }
-    requires places { PlacesLie job.now.bytes.items job.now.index }
+    requires sound { IsSound job.now.bytes.items job.now.index }
     requires inside { IsInside (view job.now.script) job.now.index }
     ensures written { WritesExport V.tells (V.held vault.new) (view job.now.script) job.now.bytes.items job.now.index result }
     ensures kept { KeepsBegun V.tells V.begun V.file V.faults vault.old vault.new }
     ensures cause { WriteHasCause (V.faults vault.old) (V.faults vault.new) result }
 {
+    put_is_prefix();
     let clip = &job.index;
     let private = bytes_at(&job.bytes, &clip.private);
     match MkvWriter::start(
@@ -100,8 +101,7 @@ fn write_rest<V: Vault>(vault: &mut V, mut writer: MkvWriter, job: &Job) -> Resu
     requires begun { IsSome (V.begun vault.old) }
     requires held { V.tells → V.held vault.old ≡ put_of writer }
     requires started { writer ≡ started_over (view job.now.script) job.now.bytes.items job.now.index }
-    requires plain { IsPlainFile job.now.bytes.items job.now.index }
-    requires places { PlacesLie job.now.bytes.items job.now.index }
+    requires sound { IsSound job.now.bytes.items job.now.index }
     requires inside { IsInside (view job.now.script) job.now.index }
     ensures written { WritesExport V.tells (V.held vault.new) (view job.now.script) job.now.bytes.items job.now.index result }
     ensures kept { KeepsBegun V.tells V.begun V.file V.faults vault.old vault.new }
@@ -117,10 +117,9 @@ fn write_rest<V: Vault>(vault: &mut V, mut writer: MkvWriter, job: &Job) -> Resu
 /// Exports the first packets of the clip to the script's file.
 pub fn export<V: Vault>(alloc: Global, job: &Job, vault: &mut V) -> Ending
     requires idle { V.begun vault.old ≡ None }
-    requires plain { IsPlainFile job.now.bytes.items job.now.index }
-    requires places { PlacesLie job.now.bytes.items job.now.index }
+    requires sound { IsSound job.now.bytes.items job.now.index }
     requires inside { IsInside (view job.now.script) job.now.index }
-    ensures ended { EndsExport V.tells (V.file vault.new) (Rose (V.faults vault.old) (V.faults vault.new)) (view job.now.script) job.now.bytes.items job.now.index result }
+    ensures ended { EndsExport V.tells (V.file vault.new) (V.faults vault.old, V.faults vault.new) (view job.now.script) job.now.bytes.items job.now.index result }
     ensures file { ChangesExport V.tells (V.file vault.old (string_bytes job.now.script.export)) (V.file vault.new (string_bytes job.now.script.export)) (view job.now.script) job.now.bytes.items job.now.index }
     ensures others { KeepsOthers V.tells (string_bytes job.now.script.export) (V.file vault.old) (V.file vault.new) }
     ensures idle { V.begun vault.new ≡ None }
@@ -137,11 +136,10 @@ pub fn export<V: Vault>(alloc: Global, job: &Job, vault: &mut V) -> Ending
 fn export_begun<V: Vault>(alloc: Global, job: &Job, vault: &mut V) -> Ending
     requires begun { V.begun vault.old ≡ Some (string_bytes job.now.script.export) }
     requires empty { V.tells → V.held vault.old ≡ [] }
-    requires plain { IsPlainFile job.now.bytes.items job.now.index }
-    requires places { PlacesLie job.now.bytes.items job.now.index }
+    requires sound { IsSound job.now.bytes.items job.now.index }
     requires inside { IsInside (view job.now.script) job.now.index }
-    ensures ended { EndsExport V.tells (V.file vault.new) (Rose (V.faults vault.old) (V.faults vault.new)) (view job.now.script) job.now.bytes.items job.now.index result }
-    ensures file { V.tells → (held : List ℕ) × (V.file vault.new (string_bytes job.now.script.export) ≡ Some held) × IsPartial held (view job.now.script) job.now.bytes.items job.now.index }
+    ensures ended { EndsExport V.tells (V.file vault.new) (V.faults vault.old, V.faults vault.new) (view job.now.script) job.now.bytes.items job.now.index result }
+    ensures file { HoldsPartial V.tells (V.file vault.new) (view job.now.script) job.now.bytes.items job.now.index }
     ensures others { KeepsOthers V.tells (string_bytes job.now.script.export) (V.file vault.old) (V.file vault.new) }
     ensures idle { V.begun vault.new ≡ None }
     ensures later { V.faults vault.old ≤ V.faults vault.new }

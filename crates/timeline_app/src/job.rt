@@ -1,15 +1,15 @@
 //! Fetching the script and its clip.
 
-ghost use Rattle.std.specs.Prelude.{◌≡◌, ◌≤◌, ℕ, List, Some, IfOk, IfErr, string_bytes, length};
+ghost use Rattle.std.specs.Prelude.{◌≡◌, ◌≤◌, ℕ, List, IfOk, IfErr, OnOk, Ok, string_bytes, length};
 ghost use Rattle.tl_ports.specs.Outside.{Rose};
 ghost use Rattle.timeline_app.specs.Reading.{view};
-ghost use Rattle.timeline_app.specs.Run.{IsJob, IsScript, IsUnfetchedStop, IsClipStop, StopHasCause, ReadsScript, ReadsClip, PlacesLie};
-ghost use Rattle.mkv_read.specs.Plain.{IsPlainFile};
+ghost use Rattle.timeline_app.specs.Run.{clip_limit, IsFetched, IsJob, IsScript, IsUnfetchedStop, IsClipStop, StopHasCause, ReadsScript, ReadsClip, IsSound};
+ghost use Rattle.mkv_read.specs.Clip.{clip_of};
 
 use crate::parse::read_script;
 use crate::script::{Script, ScriptRefusal};
 use crate::stop::Stop;
-use mkv_read::{ClipIndex, PlainFault, read_plain_clip};
+use mkv_read::{ClipFault, ClipIndex, read_clip};
 use std::alloc::Global;
 use tl_ports::{FetchFault, Store};
 
@@ -29,8 +29,8 @@ pub struct Job {
 
 /// Fetches a whole file of at most `limit` bytes.
 fn fetch<T: Store>(alloc: Global, store: &mut T, name: &str, limit: u64) -> Result<Vec<u8>, Stop>
-    ensures fetched { IfOk result (λ bytes. T.tells → T.file store.old name.now ≡ Some bytes.items) }
-    ensures size { IfOk result (λ bytes. length bytes.items ≤ limit) }
+    ensures fetched { IfOk result (λ bytes. IsFetched T.tells (T.file store.old name.now) limit bytes.items) }
+    ensures calm { OnOk result (T.faults store.new ≡ T.faults store.old) }
     ensures stop { IfErr result (IsUnfetchedStop T.tells (T.file store.old name.now) name.now limit (Rose (T.faults store.old) (T.faults store.new))) }
     ensures files { (other : List ℕ) → T.file store.new other ≡ T.file store.old other }
     ensures later { T.faults store.old ≤ T.faults store.new }
@@ -59,21 +59,21 @@ fn script_in(alloc: Global, text: &[u8]) -> Result<Script, Stop>
 
 /// Finds a clip's record and packets.
 fn index_of(alloc: Global, bytes: &[u8]) -> Result<ClipIndex, Stop>
-    requires { length bytes.now ≤ CLIP_LIMIT }
+    requires { length bytes.now ≤ clip_limit }
     ensures read { ReadsClip bytes.now result }
-    ensures within { IfOk result (λ clip. PlacesLie bytes.now clip) }
+    ensures within { IfOk result (λ clip. IsSound bytes.now clip) }
 {
-    match read_plain_clip(alloc, bytes) {
+    match read_clip(alloc, bytes) {
         Ok(index) => Ok(index),
-        Err(PlainFault::Later) => Err(Stop::NotPlain),
-        // No other fault comes than want of memory.
-        Err(_) => Err(Stop::NoMemory),
+        Err(ClipFault::NoMemory) => Err(Stop::NoMemory),
+        Err(fault) => Err(Stop::FaultyClip { fault }),
     }
 }
 
 /// Fetches and reads the script of this name.
 fn fetch_script<T: Store>(alloc: Global, store: &mut T, name: &str) -> Result<Script, Stop>
     ensures script { IfOk result (λ script. IsScript T.tells (T.file store.old) name.now (view script)) }
+    ensures calm { OnOk result (T.faults store.new ≡ T.faults store.old) }
     ensures stop { IfErr result (StopHasCause T.tells (T.file store.old) name.now (Rose (T.faults store.old) (T.faults store.new))) }
     ensures files { (other : List ℕ) → T.file store.new other ≡ T.file store.old other }
     ensures later { T.faults store.old ≤ T.faults store.new }
@@ -90,9 +90,10 @@ fn fetch_clip<T: Store>(
     store: &mut T,
     file: &str,
 ) -> Result<(Vec<u8>, ClipIndex), Stop>
-    ensures fetched { IfOk result (λ clip. T.tells → T.file store.old file.now ≡ Some clip.0.items) }
-    ensures plain { IfOk result (λ clip. IsPlainFile clip.0.items clip.1) }
-    ensures within { IfOk result (λ clip. PlacesLie clip.0.items clip.1) }
+    ensures fetched { IfOk result (λ clip. IsFetched T.tells (T.file store.old file.now) clip_limit clip.0.items) }
+    ensures calm { OnOk result (T.faults store.new ≡ T.faults store.old) }
+    ensures holds { IfOk result (λ clip. clip_of clip.0.items ≡ Ok clip.1) }
+    ensures within { IfOk result (λ clip. IsSound clip.0.items clip.1) }
     ensures stop { IfErr result (IsClipStop T.tells (T.file store.old file.now) file.now (Rose (T.faults store.old) (T.faults store.new))) }
     ensures files { (other : List ℕ) → T.file store.new other ≡ T.file store.old other }
     ensures later { T.faults store.old ≤ T.faults store.new }
@@ -109,8 +110,9 @@ fn fetch_clip<T: Store>(
 /// Fetches the script of this name and then its clip, and reads both.
 pub fn fetch_job<T: Store>(alloc: Global, store: &mut T, name: &str) -> Result<Job, Stop>
     ensures job { IfOk result (λ job. IsJob T.tells (T.file store.old) name.now (view job.script) job.bytes.items job.index) }
+    ensures calm { OnOk result (T.faults store.new ≡ T.faults store.old) }
     ensures stop { IfErr result (StopHasCause T.tells (T.file store.old) name.now (Rose (T.faults store.old) (T.faults store.new))) }
-    ensures within { IfOk result (λ job. PlacesLie job.bytes.items job.index) }
+    ensures within { IfOk result (λ job. IsSound job.bytes.items job.index) }
     ensures files { (other : List ℕ) → T.file store.new other ≡ T.file store.old other }
     ensures later { T.faults store.old ≤ T.faults store.new }
 {

@@ -1,8 +1,9 @@
 //! The lines that the program puts out.
 
 ghost use Rattle.std.specs.Prelude.{◌≡◌, IfOk, string_bytes, ◌++◌};
-ghost use Rattle.timeline_app.specs.Lines.{ok_line, done_line, fault_line, store_line, usage_line, asked_line, sink_line, refused_lines, clip_fault_line, kind_of, memory_line, export_memory_line};
+ghost use Rattle.timeline_app.specs.Lines.{ok_line, done_line, fault_line, store_line, usage_line, asked_line, sink_line, refused_lines, clip_fault_line, clip_kind_of, kind_of, memory_line, export_memory_line};
 
+use mkv_read::ClipFault;
 use std::alloc::{AllocError, Global};
 use tl_ports::FetchFault;
 
@@ -84,10 +85,29 @@ pub fn export_memory_line() -> &'static str
 }
 
 #[tactic(auto, unfolding(crate::specs::Lines::clip_fault_line))]
-pub fn clip_fault_line() -> &'static str
-    ensures { result.now ≡ clip_fault_line }
+pub fn clip_fault_line(alloc: Global, fault: ClipFault) -> Result<String, AllocError>
+    ensures { IfOk result (λ text. string_bytes text ≡ clip_fault_line fault) }
 {
-    "fault line 2 clip Later\n"
+    let kind = clip_kind_of(fault);
+    format!(in alloc; "fault line 2 clip {kind}\n")
+}
+
+fn clip_kind_of(fault: ClipFault) -> &'static str
+    ensures { result.now ≡ clip_kind_of fault }
+{
+    match fault {
+        ClipFault::Ebml { at: _ } => "Ebml",
+        ClipFault::DocType => "DocType",
+        ClipFault::NoTrack => "NoTrack",
+        ClipFault::Codec => "Codec",
+        ClipFault::NoPrivate => "NoPrivate",
+        ClipFault::Encoded => "Encoded",
+        ClipFault::Limit { which: _ } => "Limit",
+        ClipFault::Laced { at: _ } => "Laced",
+        ClipFault::TimeOrder { at: _ } => "TimeOrder",
+        ClipFault::NoFrames => "NoFrames",
+        ClipFault::NoMemory => "NoMemory",
+    }
 }
 
 #[tactic(auto, unfolding(crate::specs::Lines::memory_line))]

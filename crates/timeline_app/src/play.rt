@@ -1,10 +1,8 @@
 //! Playing a script of the form: the insert, and the export or its refusal.
 
 ghost use Rattle.std.specs.Prelude.{◌≡◌, ◌≤◌, None};
-ghost use Rattle.tl_ports.specs.Outside.{Rose};
-ghost use Rattle.mkv_read.specs.Plain.{IsPlainFile};
 ghost use Rattle.timeline_app.specs.Reading.{view};
-ghost use Rattle.timeline_app.specs.Run.{IsInside, PlacesLie, Plays, PlaysExport, PlaysRefusal, asked_lines, export_lines, fault_status, ending_status};
+ghost use Rattle.timeline_app.specs.Run.{IsInside, IsSound, Plays, PlaysExport, PlaysRefusal, asked_lines, export_lines, fault_status, ending_status};
 
 use crate::export::{Ending, export};
 use crate::job::Job;
@@ -37,10 +35,9 @@ fn ending_status(ending: Ending) -> u8
 /// Asks for the export and carries it out. It is carried out also where the line of the ask isn't put.
 fn play_asked<V: Vault, O: Sink>(alloc: Global, job: &Job, vault: &mut V, out: &mut O) -> u8
     requires idle { V.begun vault.old ≡ None }
-    requires plain { IsPlainFile job.now.bytes.items job.now.index }
-    requires places { PlacesLie job.now.bytes.items job.now.index }
+    requires sound { IsSound job.now.bytes.items job.now.index }
     requires inside { IsInside (view job.now.script) job.now.index }
-    ensures plays { PlaysExport V.tells (Rose (V.faults vault.old) (V.faults vault.new)) (V.file vault.old) (V.file vault.new) O.tells (Rose (O.faults out.old) (O.faults out.new)) (O.contents out.old) (O.contents out.new) asked_lines (view job.now.script) job.now.bytes.items job.now.index result }
+    ensures plays { PlaysExport V.tells (V.faults vault.old, V.faults vault.new) (V.file vault.old) (V.file vault.new) O.tells (O.faults out.old, O.faults out.new) (O.contents out.old) (O.contents out.new) asked_lines (view job.now.script) job.now.bytes.items job.now.index result }
     ensures idle { V.begun vault.new ≡ None }
     ensures later { O.faults out.old ≤ O.faults out.new }
 {
@@ -58,10 +55,9 @@ fn play_asked<V: Vault, O: Sink>(alloc: Global, job: &Job, vault: &mut V, out: &
 /// Inserts the clip's first frames, and exports them.
 fn play_export<V: Vault, O: Sink>(alloc: Global, job: &Job, vault: &mut V, out: &mut O) -> u8
     requires idle { V.begun vault.old ≡ None }
-    requires plain { IsPlainFile job.now.bytes.items job.now.index }
-    requires places { PlacesLie job.now.bytes.items job.now.index }
+    requires sound { IsSound job.now.bytes.items job.now.index }
     requires inside { IsInside (view job.now.script) job.now.index }
-    ensures plays { PlaysExport V.tells (Rose (V.faults vault.old) (V.faults vault.new)) (V.file vault.old) (V.file vault.new) O.tells (Rose (O.faults out.old) (O.faults out.new)) (O.contents out.old) (O.contents out.new) (export_lines job.now.script.len) (view job.now.script) job.now.bytes.items job.now.index result }
+    ensures plays { PlaysExport V.tells (V.faults vault.old, V.faults vault.new) (V.file vault.old) (V.file vault.new) O.tells (O.faults out.old, O.faults out.new) (O.contents out.old) (O.contents out.new) (export_lines job.now.script.len) (view job.now.script) job.now.bytes.items job.now.index result }
     ensures idle { V.begun vault.new ≡ None }
 {
     match say_made(out, ok_line(alloc, job.script.len)) {
@@ -72,7 +68,7 @@ fn play_export<V: Vault, O: Sink>(alloc: Global, job: &Job, vault: &mut V, out: 
 
 /// Refuses an insert past the clip's end, and the export of the empty timeline.
 fn play_refusal<O: Sink>(out: &mut O) -> u8
-    ensures { PlaysRefusal O.tells (Rose (O.faults out.old) (O.faults out.new)) (O.contents out.old) (O.contents out.new) result }
+    ensures { PlaysRefusal O.tells (O.faults out.old, O.faults out.new) (O.contents out.old) (O.contents out.new) result }
 {
     match say_refused(out) {
         Ok(()) => 0,
@@ -83,9 +79,8 @@ fn play_refusal<O: Sink>(out: &mut O) -> u8
 /// Plays the script, and answers the status.
 pub fn play<V: Vault, O: Sink>(alloc: Global, job: &Job, vault: &mut V, out: &mut O) -> u8
     requires idle { V.begun vault.old ≡ None }
-    requires plain { IsPlainFile job.now.bytes.items job.now.index }
-    requires places { PlacesLie job.now.bytes.items job.now.index }
-    ensures plays { Plays V.tells (Rose (V.faults vault.old) (V.faults vault.new)) (V.file vault.old) (V.file vault.new) O.tells (Rose (O.faults out.old) (O.faults out.new)) (O.contents out.old) (O.contents out.new) (view job.now.script) job.now.bytes.items job.now.index result }
+    requires sound { IsSound job.now.bytes.items job.now.index }
+    ensures plays { Plays V.tells (V.faults vault.old, V.faults vault.new) (V.file vault.old) (V.file vault.new) O.tells (O.faults out.old, O.faults out.new) (O.contents out.old) (O.contents out.new) (view job.now.script) job.now.bytes.items job.now.index result }
     ensures idle { V.begun vault.new ≡ None }
 {
     if job.script.len as usize <= job.index.packets.as_slice().len() {

@@ -4,7 +4,7 @@ ghost use Rattle.std.specs.Prelude.{◌≡◌, ◌⊎◌, ◌==◌, ℕ, List, S
 ghost use Rattle.tl_ports.specs.Outside.{Rose};
 ghost use Rattle.timeline_app.specs.Lines.{usage_line};
 ghost use Rattle.timeline_app.specs.Run.{script_name, Says, Puts, StopsWith, stop_line, stop_status, status_after};
-ghost use Rattle.timeline_app.specs.Top.{Runs, Works, Played, Stopped, Unsunk, ChangesOnlyExport, SaysTranscript};
+ghost use Rattle.timeline_app.specs.Top.{Runs, Works, Played, Stopped, Unsaid, Unsunk, ChangesOnlyExport, SaysTranscript, IsFaulty};
 ghost use Rattle.mkv_read.specs.declared.clip.ClipIndex.{ClipIndex};
 ghost use Rattle.timeline_app.specs.Script.{Form};
 
@@ -43,12 +43,12 @@ fn is_option(word: &str) -> bool
 
 /// Says why the session doesn't start.
 fn say_stop<O: Sink>(alloc: Global, out: &mut O, stop: &Stop) -> Result<(), PutFault>
-    ensures { Says O.tells (O.contents out.old) (O.contents out.new) (stop_line stop.now) (Rose (O.faults out.old) (O.faults out.new)) result }
+    ensures { Says O.tells (O.contents out.old) (O.contents out.new) (stop_line stop.now) (O.faults out.old, O.faults out.new) result }
 {
     match stop {
         Stop::Unfetched { name, fault } => say_made(out, store_line(alloc, name.as_str(), *fault)),
         Stop::Faulty { n } => say_made(out, fault_line(alloc, *n)),
-        Stop::NotPlain => say(out, clip_fault_line()),
+        Stop::FaultyClip { fault } => say_made(out, clip_fault_line(alloc, *fault)),
         Stop::NoMemory => say(out, memory_line()),
     }
 }
@@ -60,7 +60,7 @@ fn stop_status(stop: &Stop) -> u8
     match stop {
         Stop::Unfetched { name: _, fault: _ } => 4,
         Stop::Faulty { n: _ } => 3,
-        Stop::NotPlain => 3,
+        Stop::FaultyClip { fault: _ } => 3,
         Stop::NoMemory => 5,
     }
 }
@@ -101,7 +101,7 @@ fn run_script<T: Store, V: Vault, O: Sink>(
     out: &mut O,
 ) -> u8
     requires idle { V.begun vault.old ≡ None }
-    ensures runs { Runs (Some name.now) T.tells (Rose (T.faults store.old) (T.faults store.new)) (T.file store.old) V.tells (Rose (V.faults vault.old) (V.faults vault.new)) (V.file vault.old) (V.file vault.new) O.tells (Rose (O.faults out.old) (O.faults out.new)) (O.contents out.old) (O.contents out.new) result }
+    ensures runs { Runs (Some name.now) T.tells (T.faults store.old, T.faults store.new) (T.file store.old) V.tells (V.faults vault.old, V.faults vault.new) (V.file vault.old) (V.file vault.new) O.tells (O.faults out.old, O.faults out.new) (O.contents out.old) (O.contents out.new) result }
     ensures idle { V.begun vault.new ≡ None }
     ensures store { (other : List ℕ) → T.file store.new other ≡ T.file store.old other }
 {
@@ -120,7 +120,7 @@ fn run<T: Store, V: Vault, O: Sink>(
     out: &mut O,
 ) -> u8
     requires idle { V.begun vault.old ≡ None }
-    ensures runs { Runs (script_name (map string_bytes words.now)) T.tells (Rose (T.faults store.old) (T.faults store.new)) (T.file store.old) V.tells (Rose (V.faults vault.old) (V.faults vault.new)) (V.file vault.old) (V.file vault.new) O.tells (Rose (O.faults out.old) (O.faults out.new)) (O.contents out.old) (O.contents out.new) result }
+    ensures runs { Runs (script_name (map string_bytes words.now)) T.tells (T.faults store.old, T.faults store.new) (T.file store.old) V.tells (V.faults vault.old, V.faults vault.new) (V.file vault.old) (V.file vault.new) O.tells (O.faults out.old, O.faults out.new) (O.contents out.old) (O.contents out.new) result }
     ensures idle { V.begun vault.new ≡ None }
     ensures store { (other : List ℕ) → T.file store.new other ≡ T.file store.old other }
 {
@@ -154,20 +154,25 @@ pub fn run_alone<T: Store, V: Vault, S: Sink, O: Sink>(
 ) -> Outcome
     requires idle { V.begun vault.old ≡ None }
 
-    // 0: the script was played to its end.
+    // 0: the script was played to its end, and there was no fault.
     ensures played { result.status ≡ 0 → (script : Form) × (bytes : List ℕ) × (clip : ClipIndex) × Works (script_name (map string_bytes words.now)) T.tells (T.file store.old) script bytes clip
         × Played V.tells (V.file vault.old) (V.file vault.new) O.tells (O.contents out.old) (O.contents out.new) script bytes clip }
+    ensures calm { result.status ≡ 0 → (T.faults store.new ≡ T.faults store.old) × (V.faults vault.new ≡ V.faults vault.old) × (O.faults out.new ≡ O.faults out.old) }
 
     // 2: exactly where the words aren't of the form, unless memory ran out.
     ensures misused { result.status ≡ 2 → (script_name (map string_bytes words.now) ≡ None) × Puts O.tells (Rose (O.faults out.old) (O.faults out.new)) (O.contents out.old) (O.contents out.new) usage_line }
     ensures usage { script_name (map string_bytes words.now) ≡ None → (result.status ≡ 2) ⊎ (result.status ≡ 5) }
 
-    // 3: the script was fetched and isn't of the form, or it is and the clip was fetched and isn't plain.
+    // 3: exactly where the script was fetched and isn't of the form, or it is and the clip was fetched and has a fault,
+    // unless memory ran out.
     ensures faulty { result.status ≡ 3 → Stopped 3 (script_name (map string_bytes words.now)) T.tells (Rose (T.faults store.old) (T.faults store.new)) (T.file store.old)
         O.tells (Rose (O.faults out.old) (O.faults out.new)) (O.contents out.old) (O.contents out.new) }
 
+    ensures faulty_only { (name : List ℕ) → script_name (map string_bytes words.now) ≡ Some name → T.tells → (Rose (T.faults store.old) (T.faults store.new) → ⊥)
+        → IsFaulty (T.file store.old) name → (result.status ≡ 3) ⊎ (result.status ≡ 5) }
+
     // 4: a count rose, or the told store lacks a file or holds more of it than its limit.
-    ensures outside { result.status ≡ 4 → Rose (O.faults out.old) (O.faults out.new)
+    ensures outside { result.status ≡ 4 → Unsaid (script_name (map string_bytes words.now)) T.tells (T.file store.old) (Rose (O.faults out.old) (O.faults out.new))
         ⊎ (Stopped 4 (script_name (map string_bytes words.now)) T.tells (Rose (T.faults store.old) (T.faults store.new)) (T.file store.old) O.tells (Rose (O.faults out.old) (O.faults out.new)) (O.contents out.old) (O.contents out.new)
         ⊎ Unsunk (script_name (map string_bytes words.now)) T.tells (T.file store.old) (Rose (V.faults vault.old) (V.faults vault.new)) O.tells (O.contents out.old) (O.contents out.new)) }
 
@@ -176,7 +181,7 @@ pub fn run_alone<T: Store, V: Vault, S: Sink, O: Sink>(
 
     // Whatever the status: what else changed.
     ensures files { ChangesOnlyExport (script_name (map string_bytes words.now)) T.tells (T.file store.old) V.tells (V.file vault.old) (V.file vault.new) }
-    ensures lines { SaysTranscript (script_name (map string_bytes words.now)) T.tells (Rose (T.faults store.old) (T.faults store.new)) (T.file store.old) O.tells (O.contents out.old) (O.contents out.new) }
+    ensures lines { SaysTranscript (script_name (map string_bytes words.now)) T.tells (Rose (T.faults store.old) (T.faults store.new)) (T.file store.old) V.tells (V.faults vault.old, V.faults vault.new) (V.file vault.new) O.tells (O.contents out.old) (O.contents out.new) }
     ensures idle { V.begun vault.new ≡ None }
     ensures store { (other : List ℕ) → T.file store.new other ≡ T.file store.old other }
     ensures screen { screen.new ≡ screen.old }

@@ -1,7 +1,6 @@
 //! Putting lines out.
 
 ghost use Rattle.std.specs.Prelude.{◌≡◌, ◌≤◌, ℕ, List, IfOk, string_bytes};
-ghost use Rattle.tl_ports.specs.Outside.{Rose};
 ghost use Rattle.timeline_app.specs.Lines.{refused_lines};
 ghost use Rattle.timeline_app.specs.Run.{Says, ending_line};
 
@@ -12,7 +11,7 @@ use tl_ports::{PutFault, Sink};
 
 /// Puts a line.
 pub fn say<O: Sink>(out: &mut O, line: &str) -> Result<(), PutFault>
-    ensures said { Says O.tells (O.contents out.old) (O.contents out.new) line.now (Rose (O.faults out.old) (O.faults out.new)) result }
+    ensures said { Says O.tells (O.contents out.old) (O.contents out.new) line.now (O.faults out.old, O.faults out.new) result }
     ensures later { O.faults out.old ≤ O.faults out.new }
 {
     match out.put(line.as_bytes()) {
@@ -24,7 +23,7 @@ pub fn say<O: Sink>(out: &mut O, line: &str) -> Result<(), PutFault>
 
 /// Puts a line that takes memory to make.
 pub fn say_made<O: Sink>(out: &mut O, line: Result<String, AllocError>) -> Result<(), PutFault>
-    ensures said { (text : List ℕ) → IfOk line (λ made. string_bytes made ≡ text) → Says O.tells (O.contents out.old) (O.contents out.new) text (Rose (O.faults out.old) (O.faults out.new)) result }
+    ensures said { (text : List ℕ) → IfOk line (λ made. string_bytes made ≡ text) → Says O.tells (O.contents out.old) (O.contents out.new) text (O.faults out.old, O.faults out.new) result }
     ensures later { O.faults out.old ≤ O.faults out.new }
 {
     match line {
@@ -35,7 +34,7 @@ pub fn say_made<O: Sink>(out: &mut O, line: Result<String, AllocError>) -> Resul
 
 /// Puts the line that says how the export ended.
 pub fn say_ending<O: Sink>(alloc: Global, out: &mut O, ending: Ending) -> Result<(), PutFault>
-    ensures said { Says O.tells (O.contents out.old) (O.contents out.new) (ending_line ending) (Rose (O.faults out.old) (O.faults out.new)) result }
+    ensures said { Says O.tells (O.contents out.old) (O.contents out.new) (ending_line ending) (O.faults out.old, O.faults out.new) result }
     ensures later { O.faults out.old ≤ O.faults out.new }
 {
     match ending {
@@ -47,7 +46,7 @@ pub fn say_ending<O: Sink>(alloc: Global, out: &mut O, ending: Ending) -> Result
 
 /// Puts the lines of a refused insert and of the refused export of the empty timeline.
 pub fn say_refused<O: Sink>(out: &mut O) -> Result<(), PutFault>
-    ensures said { Says O.tells (O.contents out.old) (O.contents out.new) refused_lines (Rose (O.faults out.old) (O.faults out.new)) result }
+    ensures said { Says O.tells (O.contents out.old) (O.contents out.new) refused_lines (O.faults out.old, O.faults out.new) result }
     ensures later { O.faults out.old ≤ O.faults out.new }
 {
     let (insert, export) = refused_lines();

@@ -3,6 +3,7 @@
 ghost use Rattle.std.specs.Prelude.{◌≡◌};
 ghost use Rattle.timeline_app.specs.declared.stop.Stop.TheVariants as stops;
 
+use mkv_read::ClipFault;
 use std::alloc::{AllocError, AllocFailed};
 use tl_ports::FetchFault;
 
@@ -13,8 +14,8 @@ pub enum Stop {
     Unfetched { name: String, fault: FetchFault },
     /// The script's line `n`, counted from 1, isn't of the form.
     Faulty { n: u32 },
-    /// The clip isn't a plain file.
-    NotPlain,
+    /// The clip has a fault.
+    FaultyClip { fault: ClipFault },
     /// Memory ran out.
     NoMemory,
 }

@@ -37,29 +37,40 @@ fn tracks(alloc: Global) -> Result<Vec<u8>, AllocError> {
     Ok(tracks)
 }
 
-/// A plain file of so many packets, each a Cluster of its own, 40 ms apart.
-fn clip(alloc: Global, frames: u16) -> Result<Vec<u8>, AllocError> {
+/// Appends a SimpleBlock of the track at its Cluster's time.
+fn put_block(alloc: Global, out: &mut Vec<u8>) -> Result<(), AllocError> {
+    let mut block = Vec::new(alloc);
+    block.extend_from_slice(&[0x81, 0, 0, 0x80])?;
+    block.extend_from_slice(&PACKET)?;
+    put(out, &[0xA3], &block)?;
+    Ok(())
+}
+
+/// A file of this DocType, over a Segment of this content.
+fn file_of(alloc: Global, doc_type: &[u8], content: &[u8]) -> Result<Vec<u8>, AllocError> {
+    let mut header = Vec::new(alloc);
+    put(&mut header, &[0x42, 0x82], doc_type)?;
+    let mut file = Vec::new(alloc);
+    put(&mut file, &[0x1A, 0x45, 0xDF, 0xA3], &header)?;
+    put(&mut file, &[0x18, 0x53, 0x80, 0x67], content)?;
+    Ok(file)
+}
+
+/// A file of so many packets, each a Cluster of its own, 40 ms apart.
+fn clip(alloc: Global, doc_type: &[u8], frames: u16) -> Result<Vec<u8>, AllocError> {
     let mut content = Vec::new(alloc);
     put(&mut content, &[0x16, 0x54, 0xAE, 0x6B], &tracks(alloc)?)?;
     for frame in 0..frames {
-        let mut block = Vec::new(alloc);
-        block.extend_from_slice(&[0x81, 0, 0, 0x80])?;
-        block.extend_from_slice(&PACKET)?;
         let mut cluster = Vec::new(alloc);
         put(
             &mut cluster,
             &[0xE7],
             &(40 * u32::from(frame)).to_be_bytes(),
         )?;
-        put(&mut cluster, &[0xA3], &block)?;
+        put_block(alloc, &mut cluster)?;
         put(&mut content, &[0x1F, 0x43, 0xB6, 0x75], &cluster)?;
     }
-    let mut header = Vec::new(alloc);
-    put(&mut header, &[0x42, 0x82], b"matroska")?;
-    let mut file = Vec::new(alloc);
-    put(&mut file, &[0x1A, 0x45, 0xDF, 0xA3], &header)?;
-    put(&mut file, &[0x18, 0x53, 0x80, 0x67], &content)?;
-    Ok(file)
+    file_of(alloc, doc_type, &content)
 }
 
 /// A run over a script and a clip, and which calls of the store, of the vault and of `out` fail, counted from 1.
@@ -77,7 +88,7 @@ struct Case {
 
 const THREE: &[u8] = b"rate 25\nclip A a.mkv\nformat as A\ninsert 0 A 0 3\nexport o.mkv\n";
 
-const CASES: [Case; 13] = [
+const CASES: [Case; 14] = [
     Case {
         script: THREE,
         frames: 3,
@@ -134,8 +145,18 @@ const CASES: [Case; 13] = [
         store: &[],
         vault: &[],
         out: &[],
+        status: 0,
+        lines: "ok 3\nasked 1\nexport 1 done 3\n",
+        exported: Some(261 + 7),
+    },
+    Case {
+        script: b"rate 25\nclip A w.mkv\nformat as A\ninsert 0 A 0 3\nexport o.mkv\n",
+        frames: 3,
+        store: &[],
+        vault: &[],
+        out: &[],
         status: 3,
-        lines: "fault line 2 clip Later\n",
+        lines: "fault line 2 clip DocType\n",
         exported: None,
     },
     Case {
@@ -213,27 +234,26 @@ const CASES: [Case; 13] = [
     },
 ];
 
-/// The store of a case: its script, its clip, and the clip with a Cluster of unknown size.
+/// The store of a case: its script, its clip, the clip with a Cluster of unknown size, and one that isn't Matroska.
 fn store_of(alloc: Global, case: &Case) -> Result<MemStore, AllocError> {
     let mut store = MemStore::start(alloc, Vec::from_slice(alloc, case.store)?);
     store.add("s", Vec::from_slice(alloc, case.script)?)?;
-    store.add("a.mkv", clip(alloc, case.frames)?)?;
+    store.add("a.mkv", clip(alloc, b"matroska", case.frames)?)?;
     store.add("u.mkv", unknown_cluster(alloc)?)?;
+    store.add("w.mkv", clip(alloc, b"webm", case.frames)?)?;
     Ok(store)
 }
 
-/// A clip whose last Cluster has an unknown size.
+/// A clip of three packets, whose Cluster has an unknown size.
 fn unknown_cluster(alloc: Global) -> Result<Vec<u8>, AllocError> {
     let mut content = Vec::new(alloc);
     put(&mut content, &[0x16, 0x54, 0xAE, 0x6B], &tracks(alloc)?)?;
     content.extend_from_slice(&[0x1F, 0x43, 0xB6, 0x75, 0xFF])?;
     put(&mut content, &[0xE7], &[0])?;
-    let mut header = Vec::new(alloc);
-    put(&mut header, &[0x42, 0x82], b"matroska")?;
-    let mut file = Vec::new(alloc);
-    put(&mut file, &[0x1A, 0x45, 0xDF, 0xA3], &header)?;
-    put(&mut file, &[0x18, 0x53, 0x80, 0x67], &content)?;
-    Ok(file)
+    for _ in 0..3 {
+        put_block(alloc, &mut content)?;
+    }
+    file_of(alloc, b"matroska", &content)
 }
 
 #[test]
@@ -289,5 +309,31 @@ fn usage(rt: HostRuntime) -> Result<(), Fail> {
     assert_eq!(rt; outcome.status, 2);
     let line = "usage: timeline SCRIPT [--workers N] [--cache N] [--journal N]\n";
     assert_eq!(rt; out.bytes(), line.as_bytes());
+    Ok(())
+}
+
+/// An export is a clip again: its own export has the same bytes.
+#[test]
+fn exported_again(rt: HostRuntime) -> Result<(), Fail> {
+    let alloc = rt.alloc();
+    let mut store = store_of(alloc, &CASES[0])?;
+    let mut first = MemVault::start(alloc, Vec::new(alloc));
+    let mut second = MemVault::start(alloc, Vec::new(alloc));
+    let mut screen = MemSink::start(alloc, Vec::new(alloc));
+    let mut out = MemSink::start(alloc, Vec::new(alloc));
+    let words = vec![in alloc; String::from_str(alloc, "s")?]?;
+    run_alone(alloc, &words, &mut store, &mut first, &mut screen, &mut out);
+    let file = first.file("o.mkv").ok_or("the file is there")?;
+    store.add("a.mkv", Vec::from_slice(alloc, file)?)?;
+    run_alone(
+        alloc,
+        &words,
+        &mut store,
+        &mut second,
+        &mut screen,
+        &mut out,
+    );
+    assert_eq!(rt; second.file("o.mkv"), Some(file));
+    assert_eq!(rt; file.len(), 268);
     Ok(())
 }

@@ -10,20 +10,38 @@ use Rattle.tl_ports.specs.declared.fault.PutFault.TheVariants as putting
 abbrev pub Rose : ℕ → ℕ → Type 0
 Rose before now = min (before + 1) (2 ^ 64 - 1) ≤ now
 
--- `Failed` comes only where the count rose in that call.
+-- `Failed` comes only where the count rose in that call, and every other answer leaves the count as it was.
 abbrev pub PutHasCause : {T : Type 0} → ℕ → ℕ → Result T PutFault → Type 0
-PutHasCause before now (Ok value) = Unit {0}
+PutHasCause before now (Ok value) = now ≡ before
 PutHasCause before now (Err putting.Failed) = Rose before now
-PutHasCause before now (Err putting.NoMemory) = Unit {0}
+PutHasCause before now (Err putting.NoMemory) = now ≡ before
+
+-- What a refusal of a fetch says: of a told file that it is so, and of one that isn't told that the count rose.
+abbrev pub IsToldOr : (tells told rose : Type 0) → Type 0
+IsToldOr tells told rose = (tells × told) ⊎ ((tells → ⊥) × rose)
+
+-- A file is longer than a limit.
+abbrev pub IsLonger : (kept : Option (List ℕ)) (limit : ℕ) → Type 0
+IsLonger kept limit = (text : List ℕ) × (kept ≡ Some text) × (limit < length text)
+
+-- A refused fetch has its cause: `Failed` comes only where the count rose; a file is `Missing` or `TooLarge` where it is told to be so,
+-- or isn't told and the count rose; and want of memory leaves the count as it was.
+abbrev pub FetchHasCause : (tells : Type 0) (kept : Option (List ℕ)) (limit : ℕ) (before now : ℕ) → FetchFault → Type 0
+FetchHasCause tells kept limit before now fetching.Failed = Rose before now
+FetchHasCause tells kept limit before now fetching.Missing = IsToldOr tells (kept ≡ None) (Rose before now)
+FetchHasCause tells kept limit before now (fetching.TooLarge told) = (told ≡ limit) × IsToldOr tells (IsLonger kept limit) (Rose before now)
+FetchHasCause tells kept limit before now fetching.NoMemory = now ≡ before
 
 -- A fetch of a file that holds `kept` (none: there is no such file), into a buffer that held `before` and then holds `after`.
 -- `Ok` appends the whole file, of at most `limit` bytes. Every other answer leaves the buffer as it was.
-abbrev pub Fetches : (tells : Type 0) (kept : Option (List ℕ)) (limit : ℕ) (before after : List ℕ) (rose : Type 0) → Result Unit FetchFault → Type 0
-Fetches tells kept limit before after rose (Ok done) = (piece : List ℕ) × (after ≡ before ++ piece) × (length piece ≤ limit) × (tells → kept ≡ Some piece)
-Fetches tells kept limit before after rose (Err fetching.Failed) = (after ≡ before) × rose
-Fetches tells kept limit before after rose (Err fetching.Missing) = (after ≡ before) × (rose ⊎ (tells × (kept ≡ None)))
-Fetches tells kept limit before after rose (Err (fetching.TooLarge told)) = (after ≡ before) × (told ≡ limit) × (rose ⊎ (tells × ((text : List ℕ) × (kept ≡ Some text) × (limit < length text))))
-Fetches tells kept limit before after rose (Err fetching.NoMemory) = after ≡ before
+abbrev pub Fetches : (tells : Type 0) (kept : Option (List ℕ)) (limit : ℕ) (before after : List ℕ) → Result Unit FetchFault → Type 0
+Fetches tells kept limit before after (Ok done) = (piece : List ℕ) × (after ≡ before ++ piece) × (length piece ≤ limit) × (tells → kept ≡ Some piece)
+Fetches tells kept limit before after (Err fault) = after ≡ before
+
+-- What comes of a fetch has its cause, and a fetch that is Ok leaves the count of faults as it was.
+abbrev pub FetchedByCause : (tells : Type 0) (kept : Option (List ℕ)) (limit : ℕ) (before now : ℕ) → Result Unit FetchFault → Type 0
+FetchedByCause tells kept limit before now (Ok done) = now ≡ before
+FetchedByCause tells kept limit before now (Err fault) = FetchHasCause tells kept limit before now fault
 
 -- A piece was added whole, or after a refusal some front of it.
 abbrev pub Adds : (before after piece : List ℕ) → Result Unit PutFault → Type 0

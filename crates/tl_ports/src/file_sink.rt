@@ -4,7 +4,7 @@ ghost use Rattle.std.specs.Prelude.{◌≡◌, []};
 
 use crate::fault::PutFault;
 use crate::ports::Sink;
-use crate::stream::write_whole;
+use crate::stream::write_counted;
 use std::fs;
 use std::rt::Files;
 
@@ -40,32 +40,19 @@ impl<R: Files> Sink for FileSink<'_, R> {
 
     /// `Failed` where the file can't be opened, at an error of a write, and where a write takes none of the bytes.
     fn put(&mut self, bytes: &[u8]) -> Result<(), PutFault> {
-        match put_into(self.rt, self.name.as_str(), &mut self.file, bytes) {
-            Ok(()) => Ok(()),
-            Err(fault) => {
-                self.faults = self.faults.saturating_add(1);
-                Err(fault)
-            }
-        }
-    }
-}
-
-/// Writes to the file, which is opened where it isn't yet.
-fn put_into<R: Files>(
-    rt: &R,
-    name: &str,
-    file: &mut Option<R::File>,
-    bytes: &[u8],
-) -> Result<(), PutFault> {
-    if let Some(file) = file {
-        return write_whole(file, bytes);
-    }
-    match fs::create(rt, name) {
-        Ok(mut opened) => {
-            let outcome = write_whole(&mut opened, bytes);
-            *file = Some(opened);
-            outcome
-        }
-        Err(_) => Err(PutFault::Failed),
+        let mut file = match self.file.take() {
+            Some(file) => file,
+            None => match fs::create(self.rt, self.name.as_str()) {
+                Ok(file) => file,
+                Err(_) => {
+                    self.faults = self.faults.saturating_add(1);
+                    return Err(PutFault::Failed);
+                }
+            },
+        };
+        let outcome = write_counted(&mut file, bytes, &mut self.faults);
+        self.file = Some(file);
+        outcome?;
+        Ok(())
     }
 }

@@ -1,6 +1,6 @@
 //! A store over a folder.
 
-ghost use Rattle.std.specs.Prelude.{◌≡◌, ℕ, ◌+◌, ◌≤◌, None, IfErr, OnOk, vec_len};
+ghost use Rattle.std.specs.Prelude.{◌≡◌, ◌≢◌, ℕ, ◌+◌, ◌≤◌, None, IfErr, OnOk, vec_len};
 ghost use Rattle.std.specs.Io.{StartsWith};
 ghost use Rattle.tl_ports.specs.Stream.{IsOver};
 
@@ -85,7 +85,9 @@ fn read_file<R: Files>(rt: &R, name: &str, limit: u64, into: &mut Vec<u8>) -> Re
 }
 
 fn fault_of(kind: ErrorKind) -> FetchFault
-    ensures { (limit : ℕ) → IsOver limit None result }
+    ensures missing { kind ≡ ErrorKind.NotFound → result ≡ FetchFault.Missing }
+    ensures failed { kind ≢ ErrorKind.NotFound → result ≡ FetchFault.Failed }
+    ensures over { (limit : ℕ) → IsOver limit None result }
 {
     match kind {
         ErrorKind::NotFound => FetchFault::Missing,

@@ -3,10 +3,11 @@
 ghost use Rattle.std.specs.Prelude.{◌≡◌, ◌≤◌, [], None};
 ghost use Rattle.std.specs.Option.{option_map};
 ghost use Rattle.tl_ports.specs.Outside.{Rose};
+ghost use Rattle.tl_ports.specs.FaultPlan.{one_more};
 
 use crate::fault::PutFault;
 use crate::ports::Vault;
-use crate::stream::write_whole;
+use crate::stream::write_counted;
 use std::fs::OpenFile;
 use std::io::Write;
 use std::rt::Files;
@@ -44,6 +45,7 @@ impl<'a, R: Files + AllocGlobal> FolderVault<'a, R> {
     /// Counts a fault.
     fn fail(&mut self) -> PutFault
         ensures fault { result ≡ PutFault.Failed }
+        ensures counted { self.new.faults ≡ one_more self.old.faults }
         ensures rose { Rose self.old.faults self.new.faults }
         ensures later { self.old.faults ≤ self.new.faults }
         ensures begun { self.new.begun ≡ self.old.begun }
@@ -88,12 +90,10 @@ impl<R: Files + AllocGlobal> Vault for FolderVault<'_, R> {
         let Some(mut begun) = self.begun.take() else {
             unreachable!()
         };
-        let outcome = write_whole(&mut begun.file, bytes);
+        let outcome = write_counted(&mut begun.file, bytes, &mut self.faults);
         self.begun = Some(begun);
-        match outcome {
-            Ok(()) => Ok(()),
-            Err(_) => Err(self.fail()),
-        }
+        outcome?;
+        Ok(())
     }
 
     /// Closes the file, once its bytes are on the disk. `Failed` where they don't get there.

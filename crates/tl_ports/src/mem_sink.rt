@@ -2,7 +2,7 @@
 
 ghost use Rattle.std.specs.Prelude.{◌≡◌, ◌≤◌, []};
 ghost use Rattle.tl_ports.specs.Outside.{Adds, PutHasCause};
-ghost use Rattle.tl_ports.specs.FaultPlan.{FailsNext, CountsCall, IsFresh, PutsByPlan};
+ghost use Rattle.tl_ports.specs.FaultPlan.{FailsNext, CountsCall, IsFresh, PutsByPlan, CountsPut};
 
 use crate::fault::PutFault;
 use crate::fault_plan::FaultPlan;
@@ -54,6 +54,7 @@ impl Sink for MemSink {
         ensures puts { PutsByPlan (FailsNext self.old.plan) (⟦<MemSink as Sink>⟧.contents self.old)
             (⟦<MemSink as Sink>⟧.contents self.new) bytes.now result }
         ensures counted { CountsCall self.old.plan self.new.plan }
+        ensures faults { CountsPut self.old.plan.faults self.new.plan.faults result }
     {
         self.plan.put(bytes, &mut self.bytes)?;
         Ok(())

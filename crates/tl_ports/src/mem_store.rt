@@ -1,8 +1,8 @@
 //! A store in memory.
 
 ghost use Rattle.std.specs.Prelude.{◌≡◌, ◌≢◌, ◌≤◌, ◌↔◌, ℕ, List, Some, None, OnOk, OnErr, IsErrOf};
-ghost use Rattle.tl_ports.specs.Outside.{Rose, Fetches};
-ghost use Rattle.tl_ports.specs.FaultPlan.{FailsNext, CountsCall, IsFresh};
+ghost use Rattle.tl_ports.specs.Outside.{Fetches, FetchedByCause};
+ghost use Rattle.tl_ports.specs.FaultPlan.{FailsNext, CountsCall, CountsFault, IsFresh};
 ghost use Rattle.tl_ports.specs.FileList.{file_in};
 
 use crate::fault::FetchFault;
@@ -57,13 +57,15 @@ impl Store for MemStore {
     /// Answers `Failed` exactly where its number is in the list.
     fn fetch(&mut self, name: &str, limit: u64, into: &mut Vec<u8>) -> Result<(), FetchFault>
         ensures fetched { Fetches (Unit {0})
-            (⟦<MemStore as Store>⟧.file self.old name.now) limit into.old.items into.new.items
-            (Rose (⟦<MemStore as Store>⟧.faults self.old) (⟦<MemStore as Store>⟧.faults self.new)) result }
+            (⟦<MemStore as Store>⟧.file self.old name.now) limit into.old.items into.new.items result }
+        ensures cause { FetchedByCause (Unit {0}) (⟦<MemStore as Store>⟧.file self.old name.now) limit
+            (⟦<MemStore as Store>⟧.faults self.old) (⟦<MemStore as Store>⟧.faults self.new) result }
         ensures files { (other : List ℕ) → ⟦<MemStore as Store>⟧.file self.new other
             ≡ ⟦<MemStore as Store>⟧.file self.old other }
         ensures later { ⟦<MemStore as Store>⟧.faults self.old ≤ ⟦<MemStore as Store>⟧.faults self.new }
         ensures fails { IsErrOf result FetchFault.Failed ↔ FailsNext self.old.plan }
         ensures counted { CountsCall self.old.plan self.new.plan }
+        ensures faults { CountsFault self.old.plan self.new.plan }
     {
         if self.plan.next_fails() {
             return Err(FetchFault::Failed);
@@ -77,7 +79,8 @@ impl Store for MemStore {
 
 /// Appends a whole file of at most `limit` bytes.
 fn copy_within(bytes: &[u8], limit: u64, into: &mut Vec<u8>) -> Result<(), FetchFault>
-    ensures copied { Fetches (Unit {0}) (Some bytes.now) limit into.old.items into.new.items ⊥ result }
+    ensures copied { Fetches (Unit {0}) (Some bytes.now) limit into.old.items into.new.items result }
+    ensures cause { (before now : ℕ) → now ≡ before → FetchedByCause (Unit {0}) (Some bytes.now) limit before now result }
     ensures known { result ≢ Err FetchFault.Failed }
 {
     if bytes.len() as u64 > limit {

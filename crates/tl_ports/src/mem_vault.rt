@@ -3,7 +3,7 @@
 ghost use Rattle.std.specs.Prelude.{◌≡◌, ◌≢◌, ◌≤◌, ◌↔◌, ℕ, List, Some, None, if◌then◌else◌, MatchResult, IsErrOf, IsSome, OnErr};
 ghost use Rattle.std.specs.Option.{option_copied};
 ghost use Rattle.tl_ports.specs.Outside.{Adds, Begins, PutHasCause, KeepsOthers, KeepsBegun};
-ghost use Rattle.tl_ports.specs.FaultPlan.{FailsNext, CountsCall, IsFresh, PutsByPlan};
+ghost use Rattle.tl_ports.specs.FaultPlan.{FailsNext, CountsCall, CountsFault, IsFresh, PutsByPlan, CountsPut};
 ghost use Rattle.tl_ports.specs.FileList.{file_in, latest_name, latest_bytes, file_in-latest};
 
 use crate::fault::PutFault;
@@ -72,6 +72,7 @@ impl Vault for MemVault {
             (⟦<MemVault as Vault>⟧.file self.new name.now ≡ ⟦<MemVault as Vault>⟧.file self.old name.now) }
         ensures fails { IsErrOf result PutFault.Failed ↔ FailsNext self.old.plan }
         ensures counted { CountsCall self.old.plan self.new.plan }
+        ensures faults { CountsFault self.old.plan self.new.plan }
     {
         if self.plan.next_fails() {
             return Err(PutFault::Failed);
@@ -96,6 +97,7 @@ impl Vault for MemVault {
         ensures puts { PutsByPlan (FailsNext self.old.plan) (⟦<MemVault as Vault>⟧.held self.old)
             (⟦<MemVault as Vault>⟧.held self.new) bytes.now result }
         ensures counted { CountsCall self.old.plan self.new.plan }
+        ensures faults { CountsPut self.old.plan.faults self.new.plan.faults result }
     {
         let latest = &mut self.files.files[0];
         self.plan.put(bytes, &mut latest.bytes)?;
@@ -113,6 +115,7 @@ impl Vault for MemVault {
         ensures fails { MatchResult result (λ done. FailsNext self.old.plan → ⊥)
             (λ fault. (fault ≡ PutFault.Failed) × FailsNext self.old.plan) }
         ensures counted { CountsCall self.old.plan self.new.plan }
+        ensures faults { CountsFault self.old.plan self.new.plan }
     {
         self.is_open = false;
         if self.plan.next_fails() {

@@ -4,7 +4,7 @@ ghost use Rattle.std.specs.Prelude.{◌≡◌, []};
 
 use crate::fault::PutFault;
 use crate::ports::Sink;
-use crate::stream::write_whole;
+use crate::stream::write_counted;
 use std::io;
 
 /// The standard output. It tells no bytes. Its count rises at every error.
@@ -32,12 +32,7 @@ impl<R: Print> Sink for OutSink<'_, R> {
 
     /// `Failed` at an error of a write, and where a write takes none of the bytes.
     fn put(&mut self, bytes: &[u8]) -> Result<(), PutFault> {
-        match write_whole(&mut io::writer(self.rt), bytes) {
-            Ok(()) => Ok(()),
-            Err(fault) => {
-                self.faults = self.faults.saturating_add(1);
-                Err(fault)
-            }
-        }
+        write_counted(&mut io::writer(self.rt), bytes, &mut self.faults)?;
+        Ok(())
     }
 }

@@ -1,7 +1,7 @@
 //! The traits to the outside: files to read, files to write, and a sink for bytes.
 
 ghost use Rattle.std.specs.Prelude.{◌≡◌, ℕ, ◌≤◌, List, [], Option, Some, None, IsSome};
-ghost use Rattle.tl_ports.specs.Outside.{Fetches, Rose, Adds, Begins, PutHasCause, KeepsOthers, KeepsBegun};
+ghost use Rattle.tl_ports.specs.Outside.{Fetches, FetchedByCause, Adds, Begins, PutHasCause, KeepsOthers, KeepsBegun};
 
 use crate::fault::{FetchFault, PutFault};
 
@@ -19,7 +19,8 @@ pub trait Store {
     /// Appends the whole file, of at most `limit` bytes, to the buffer.
     /// After a refusal the buffer holds what it held before.
     fn fetch(&mut self, name: &str, limit: u64, into: &mut Vec<u8>) -> Result<(), FetchFault>
-        ensures fetched { Fetches tells (file self.old name.now) limit into.old.items into.new.items (Rose (faults self.old) (faults self.new)) result }
+        ensures fetched { Fetches tells (file self.old name.now) limit into.old.items into.new.items result }
+        ensures cause { FetchedByCause tells (file self.old name.now) limit (faults self.old) (faults self.new) result }
         ensures files { (other : List ℕ) → file self.new other ≡ file self.old other }
         ensures later { faults self.old ≤ faults self.new };
 }

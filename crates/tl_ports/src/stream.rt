@@ -2,6 +2,8 @@
 //! A call that a signal interrupts is made again, and isn't a fault.
 
 ghost use Rattle.std.specs.Prelude.{◌≡◌, ◌+◌, ◌-◌, ◌^◌, ◌<◌, ◌≤◌, length, take, drop, ◌++◌, ℕ, IfSome, IfOk, IfErr, OnOk, IsOkUnless, vec_len};
+ghost use Rattle.tl_ports.specs.Outside.{PutHasCause};
+ghost use Rattle.tl_ports.specs.FaultPlan.{CountsPut};
 ghost use Rattle.tl_ports.specs.Stream.{Writes, IsReadFault, IsOver};
 ghost use Rattle.std.specs.Io.{ReadsAtMost, StartsWith};
 ghost use Rattle.std.specs.Io.KnownBytes.{Consumes, IsAtEnd};
@@ -36,6 +38,27 @@ pub(crate) fn write_whole<W: Write>(to: &mut W, bytes: &[u8]) -> Result<(), PutF
         }
     }
     Err(PutFault::Failed)
+}
+
+/// Writes all of the bytes, or counts a fault.
+pub(crate) fn write_counted<W: Write>(
+    to: &mut W,
+    bytes: &[u8],
+    faults: &mut u64,
+) -> Result<(), PutFault>
+    ensures written { Writes (W.contents to.old) (W.contents to.new) bytes.now result }
+    ensures counted { CountsPut faults.old faults.new result }
+    ensures known { IsOkUnless result PutFault.Failed }
+    ensures later { faults.old ≤ faults.new }
+    ensures cause { PutHasCause faults.old faults.new result }
+{
+    match write_whole(to, bytes) {
+        Ok(()) => Ok(()),
+        Err(_) => {
+            *faults = faults.saturating_add(1);
+            Err(PutFault::Failed)
+        }
+    }
 }
 
 fn read_once<R: Read>(file: &mut R, buffer: &mut [u8]) -> Result<usize, FetchFault>

@@ -1,4 +1,4 @@
-use Rattle.std.proofs.Common.{◌≡◌, ◌∙◌, Some, string_bytes}
+use Rattle.std.proofs.Common.{◌∙◌, string_bytes}
 use Rattle.timeline_app.specs.Reading.{view}
 use Rattle.timeline_app.proofs.Exporting.{ends, partial_written}
 use Rattle.timeline_app.proofs.export.export_begun.Goals as goal

@@ -11,4 +11,5 @@ invariant-loop-place g l =
       given : l.writer ≡ with_packets l.fn.writer (map (bytes_at l.bytes) (take l.place-index l.places));
       held : V.tells → V.held l.vault ≡ put_of l.writer;
       kept : KeepsBegun V.tells V.begun V.file V.faults l.fn.vault l.vault;
+      calm : V.faults l.vault ≡ V.faults l.fn.vault;
     }

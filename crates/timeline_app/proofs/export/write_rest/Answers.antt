@@ -14,4 +14,4 @@ pub returns-in-Err-clause-written : goal.returns-in-Err-clause-written
 returns-in-Err-clause-written g c = λ told.
     let job = c.args.job.now in
     stops_short (g.V.Vault.held c.write_frames.new.vault) c.args.writer (view job.script) job.bytes.items c.deref.result.now job.index c.first_places-places.result.now
-    c.requires.started c.deref.ensures.value c.first_places-places.ensures c.requires.inside (c.in-Err.ensures.put told)
+    c.requires.started c.deref.ensures.value c.first_places-places.ensures (c.in-Err.ensures.put told)

@@ -1,5 +1,5 @@
-use Rattle.std.proofs.Common.{◌<◌, arith, ◌+◌, ◌≤◌, ◌*◌, ◌^◌, length}
-use Rattle.timeline_app.proofs.Digits.{fits_next, next_small}
+use Rattle.std.proofs.Common.{◌<◌, arith}
+use Rattle.timeline_app.proofs.Digits.{fits_next}
 use Rattle.timeline_app.proofs.parse.value_of.Goals as goal
 
 pub overflow_mul-value : goal.overflow_mul-value

@@ -1,10 +1,8 @@
-use Rattle.std.proofs.Common.{refl, inl}
-use Rattle.tl_ports.specs.Outside.{Rose}
+use Rattle.std.proofs.Common.{ℕ, refl, inl}
 use Rattle.timeline_app.specs.Reading.{view}
 use Rattle.timeline_app.specs.Lines.{ok_line}
 use Rattle.timeline_app.specs.Run.{asked_lines, export_lines}
-use Rattle.timeline_app.proofs.Stops.{rose_later}
-use Rattle.timeline_app.proofs.Saying.{export_after, export_stopped, front_of_first}
+use Rattle.timeline_app.proofs.Saying.{says_first, refused_front, export_after, export_stopped}
 use Rattle.timeline_app.specs.declared.export.Ending.TheVariants as endings
 use Rattle.timeline_app.proofs.play.play_export.Goals as goal
 
@@ -17,9 +15,9 @@ returns-in-Ok-clause-plays g c =
     let old = c.args.out.now in
     let mid = c.say_made.new.out in
     let new = c.play_asked.new.out in
-    export_after V.tells (Rose (V.faults c.args.vault.now) (V.faults vault)) (V.file c.args.vault.now) (V.file vault) O.tells (Rose (O.faults mid) (O.faults new)) (Rose (O.faults old) (O.faults new))
+    export_after V.tells (V.faults c.args.vault.now, V.faults vault) (V.file c.args.vault.now) (V.file vault) O.tells (O.faults old) (O.faults mid) (O.faults new)
     (O.contents old) (O.contents mid) (O.contents new) (ok_line job.script.len) asked_lines (export_lines job.script.len) (view job.script) job.bytes.items job.index c.play_asked.result
-    (c.in-Ok.ensures.said (ok_line job.script.len) c.ok_line.ensures) (rose_later (O.faults old) (O.faults mid) (O.faults new) c.in-Ok.ensures.later) (λ ending. refl) c.play_asked.ensures.plays
+    (c.in-Ok.ensures.said (ok_line job.script.len) c.ok_line.ensures) (λ ending. refl) c.play_asked.ensures.plays
 
 pub returns-in-Err-clause-plays : goal.returns-in-Err-clause-plays
 returns-in-Err-clause-plays g c =
@@ -29,8 +27,10 @@ returns-in-Err-clause-plays g c =
     let file = V.file c.args.vault.now in
     let old = c.args.out.now in
     let new = c.say_made.new.out in
+    let fault = c.in-Err.fault in
+    let faults : ℕ × ℕ = (O.faults old, O.faults new) in
+    let both = says_first O.tells (O.contents old) (O.contents new) (ok_line job.script.len) (asked_lines endings.NoMemory) faults fault (c.in-Err.ensures.said (ok_line job.script.len) c.ok_line.ensures) in
     rw c.fault_status.ensures
-    (export_stopped V.tells (Rose (V.faults c.args.vault.now) (V.faults c.args.vault.now)) file file O.tells (Rose (O.faults old) (O.faults new)) (Rose (O.faults old) (O.faults new))
-    (O.contents old) (O.contents old) (O.contents new) (export_lines job.script.len) (view job.script) job.bytes.items job.index (ok_line job.script.len) c.in-Err.fault
-    (c.in-Err.ensures.said (ok_line job.script.len) c.ok_line.ensures) (λ rose. rose) (λ told. inl refl) (λ told other ne. refl)
-    (endings.NoMemory, front_of_first O.tells (O.contents old) (O.contents new) (ok_line job.script.len) (asked_lines endings.NoMemory) (Rose (O.faults old) (O.faults new)) c.in-Err.fault (c.in-Err.ensures.said (ok_line job.script.len) c.ok_line.ensures)))
+    (export_stopped V.tells (V.faults c.args.vault.now, V.faults c.args.vault.now) file file O.tells faults (O.contents old) (O.contents new)
+    (export_lines job.script.len) (view job.script) job.bytes.items job.index (export_lines job.script.len endings.NoMemory) endings.NoMemory fault both (λ told. inl refl) (λ told other ne. refl)
+    (inl refl) (refused_front O.tells (O.contents old) (O.contents new) (export_lines job.script.len endings.NoMemory) faults fault both))

@@ -1,6 +1,4 @@
-use Rattle.std.proofs.Common.{◌≡◌, Option, List, ℕ, sym, subst, map, string_bytes}
-use Rattle.tl_ports.specs.Outside.{Rose}
-use Rattle.timeline_app.specs.Run.{script_name}
+use Rattle.std.proofs.Common.{sym}
 use Rattle.timeline_app.proofs.Running.{run_misused}
 use Rattle.timeline_app.proofs.run.run.Goals as goal
 
@@ -10,5 +8,5 @@ returns-in-None-clause-runs g c =
     let V = g.V.Vault in
     let O = g.O.Sink in
     rw (sym c.in-None.ensures)
-    (run_misused T.tells (Rose (T.faults c.args.store.now) (T.faults c.args.store.now)) (T.file c.args.store.now) V.tells (Rose (V.faults c.args.vault.now) (V.faults c.args.vault.now)) (V.file c.args.vault.now)
-    O.tells (Rose (O.faults c.args.out.now) (O.faults c.misuse.new.out)) (O.contents c.args.out.now) (O.contents c.misuse.new.out) c.misuse.result c.misuse.ensures)
+    (run_misused T.tells (T.faults c.args.store.now, T.faults c.args.store.now) (T.file c.args.store.now) V.tells (V.faults c.args.vault.now, V.faults c.args.vault.now) (V.file c.args.vault.now)
+    O.tells (O.faults c.args.out.now, O.faults c.misuse.new.out) (O.contents c.args.out.now) (O.contents c.misuse.new.out) c.misuse.result c.misuse.ensures)

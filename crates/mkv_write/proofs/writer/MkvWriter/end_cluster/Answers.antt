@@ -4,10 +4,9 @@ use Rattle.mkv_write.specs.declared.writer.MkvWriter.TheInside.{Inside}
 use Rattle.mkv_write.specs.File.{cue_point, cluster_of, simple_block, frame_time}
 use Rattle.mkv_write.specs.History.{packet_of, writing_of}
 use Rattle.mkv_write.specs.Keeping.{Keeps, points_of}
-use Rattle.mkv_write.specs.Writing.{Writing, with_packet, put_of, file_of, IsPrefix}
-use Rattle.mkv_write.proofs.Files.{put_of-prefix_now, puts_err, unput}
+use Rattle.mkv_write.specs.Writing.{Writing, with_packet, put_of, IsPrefix}
+use Rattle.mkv_write.proofs.Files.{puts_err, unput}
 use Rattle.mkv_write.proofs.Kept.{keeps_ended, next_block, put_of-ended, points_of-push, packets-push}
-use Rattle.mkv_write.proofs.Prefix.{prefix_trans}
 use Rattle.mkv_write.proofs.writer.MkvWriter.end_cluster.Goals as goal
 
 -- what is held after the Cluster
@@ -26,17 +25,16 @@ held_then inside w time block held packet view keeps last time-is block-is held-
 
 pub returns-in_err-reserve-clause-put : goal.returns-in_err-reserve-clause-put
 returns-in_err-reserve-clause-put g c =
-    puts_err _ _ _ _ _ c.from_residual.ensures.0 (λ t. unput _ c.args.self.now c.args.packet.now (c.requires.held t))
+    puts_err _ _ _ _ c.from_residual.ensures.0 (λ t. unput _ c.args.self.now c.args.packet.now (c.requires.held t))
 
 pub returns-in_err-reserve-2-clause-put : goal.returns-in_err-reserve-2-clause-put
 returns-in_err-reserve-2-clause-put g c =
-    puts_err _ _ _ _ _ c.from_residual-in_err-reserve-2.ensures.0 (λ t. unput _ c.args.self.now c.args.packet.now (c.requires.held t))
+    puts_err _ _ _ _ c.from_residual-in_err-reserve-2.ensures.0 (λ t. unput _ c.args.self.now c.args.packet.now (c.requires.held t))
 
 pub returns-in_err-given-clause-put : goal.returns-in_err-given-clause-put
 returns-in_err-given-clause-put g c =
-    let w : Writing = with_packet c.args.self.now c.args.packet.now in
-    puts_err _ _ _ _ _ c.from_residual-in_err-given.ensures.0
-    (λ t. prefix_trans _ _ _ (c.in_err-given.ensures.put t) (subst (λ (x : List ℕ). IsPrefix x (file_of w)) (sym (held_then c.self.inside c.args.self.now _ _ _ c.args.packet.now c.self.view_is c.self.invariant c.requires.last c.cluster_time-time.ensures c.block_time-block_time.ensures (c.requires.held t))) (put_of-prefix_now w)))
+    puts_err _ _ _ _ c.from_residual-in_err-given.ensures.0
+    (λ t. subst (λ (x : List ℕ). IsPrefix (g.V.Vault.held c.put_full_cluster.new.vault) x) (held_then c.self.inside c.args.self.now _ _ _ c.args.packet.now c.self.view_is c.self.invariant c.requires.last c.cluster_time-time.ensures c.block_time-block_time.ensures (c.requires.held t)) (c.in_err-given.ensures.put t))
 
 pub invariant_of-self-2 : goal.invariant_of-self-2
 invariant_of-self-2 g c =

@@ -7,7 +7,7 @@ use Rattle.mkv_write.proofs.writer.MkvWriter.frame.Goals as goal
 
 pub returns-in_err-gather-clause-put : goal.returns-in_err-gather-clause-put
 returns-in_err-gather-clause-put g c =
-    puts_err _ _ _ _ _ c.from_residual-in_err-gather.ensures.0 (λ t. unput _ c.args.self.now c.args.packet.now (c.requires.held t))
+    puts_err _ _ _ _ c.from_residual-in_err-gather.ensures.0 (λ t. unput _ c.args.self.now c.args.packet.now (c.requires.held t))
 
 pub returns-in_ok-gather-clause-put : goal.returns-in_ok-gather-clause-put
 returns-in_ok-gather-clause-put g c =

@@ -1,13 +1,13 @@
-use Rattle.std.proofs.Common.{◌≡◌, ◌≢◌, ℕ, ◌%◌, ◌*◌, ◌/◌, ◌++◌, List, length, sym, ap, ◌∙◌, subst}
+use Rattle.std.proofs.Common.{◌≡◌, ◌≢◌, ℕ, ◌%◌, ◌*◌, ◌/◌, ◌++◌, List, length, ap, ◌∙◌, subst}
 use Rattle.mkv_write.specs.declared.cue.Cue.{Cue}
 use Rattle.mkv_write.specs.declared.writer.MkvWriter.TheInside.{Inside}
 use Rattle.mkv_write.specs.File.{frame_time, head, clusters, cluster_count, cluster_of, cue_points}
 use Rattle.mkv_write.specs.History.{writing_of}
 use Rattle.mkv_write.specs.Keeping.{Keeps, lead_length, points_of}
-use Rattle.mkv_write.specs.Writing.{Writing, put_of, file_of, IsPrefix}
-use Rattle.mkv_write.proofs.Files.{no_cues-prefix, puts_err}
+use Rattle.mkv_write.specs.Writing.{Writing, put_of, IsPrefix}
+use Rattle.mkv_write.proofs.Files.{puts_err}
 use Rattle.mkv_write.proofs.Kept.{put_of-rest, points_of-rest, points_of-push}
-use Rattle.mkv_write.proofs.Prefix.{prefix_trans}
+use Rattle.mkv_write.proofs.Prefix.{prefix_same}
 use Rattle.mkv_write.proofs.writer.MkvWriter.put_last.Goals as goal
 
 -- all but the Cues
@@ -25,19 +25,17 @@ held_then inside w time held bytes view keeps some time-is bytes-are held-is =
     let whole : put_of w ++ cluster_of time inside.gathered.items ≡ no_cues w = subst (λ (x : Writing). put_of x ++ cluster_of time inside.gathered.items ≡ no_cues x) view rest in
     ap (λ (x : List ℕ). x ++ cluster_of time bytes) held-is ∙ ap (λ (x : List ℕ). put_of w ++ cluster_of time x) bytes-are ∙ whole
 
-prefix_of-no_cues : (w : Writing) (held : List ℕ) → held ≡ no_cues w → IsPrefix held (file_of w)
-unfolding no_cues
-prefix_of-no_cues w held e = subst (λ (x : List ℕ). IsPrefix x (file_of w)) (sym e) (no_cues-prefix w)
-
 pub returns-in_err-put_cluster-clause-put : goal.returns-in_err-put_cluster-clause-put
+unfolding no_cues
 returns-in_err-put_cluster-clause-put g c =
-    puts_err _ _ _ _ _ c.from_residual.ensures.0
-    (λ t. prefix_trans _ _ _ (c.in_err-put_cluster.ensures.put t) (prefix_of-no_cues c.args.self _ (held_then c.self.inside c.args.self _ _ _ c.self.view_is c.self.invariant c.if-self-eq0.false c.cluster_time-time.ensures c.deref.ensures.value (c.requires.held t))))
+    puts_err _ _ _ _ c.from_residual.ensures.0
+    (λ t. subst (λ (x : List ℕ). IsPrefix (g.V.Vault.held c.put_cluster.new.vault) x) (held_then c.self.inside c.args.self _ _ _ c.self.view_is c.self.invariant c.if-self-eq0.false c.cluster_time-time.ensures c.deref.ensures.value (c.requires.held t)) (c.in_err-put_cluster.ensures.put t))
 
 pub returns-in_err-push-clause-put : goal.returns-in_err-push-clause-put
+unfolding no_cues
 returns-in_err-push-clause-put g c =
-    puts_err _ _ _ _ _ c.from_residual-in_err-push.ensures.0
-    (λ t. prefix_of-no_cues c.args.self _ (c.in_ok-put_cluster.ensures.put t ∙ held_then c.self.inside c.args.self _ _ _ c.self.view_is c.self.invariant c.if-self-eq0.false c.cluster_time-time.ensures c.deref.ensures.value (c.requires.held t)))
+    puts_err _ _ _ _ c.from_residual-in_err-push.ensures.0
+    (λ t. prefix_same _ _ (c.in_ok-put_cluster.ensures.put t ∙ held_then c.self.inside c.args.self _ _ _ c.self.view_is c.self.invariant c.if-self-eq0.false c.cluster_time-time.ensures c.deref.ensures.value (c.requires.held t)))
 
 pub returns-clause-cues : goal.returns-clause-cues
 returns-clause-cues g c =

@@ -1,10 +1,9 @@
 use Rattle.std.proofs.Common.{◌≡◌, ℕ, ◌++◌, [], List, length, map, sym, ap, ◌∙◌, subst, arith}
 use Rattle.mkv_write.specs.File.{ebml_header, segment_head, lead}
 use Rattle.mkv_write.specs.History.{packet_of, writing_of}
-use Rattle.mkv_write.specs.Writing.{Writing, nothing_yet, put_of, file_of, IsPrefix}
-use Rattle.mkv_write.proofs.Files.{put_of-nothing, put_of-prefix_now, puts_err}
+use Rattle.mkv_write.specs.Writing.{Writing, nothing_yet, put_of, IsPrefix}
+use Rattle.mkv_write.proofs.Files.{put_of-nothing, puts_err}
 use Rattle.mkv_write.proofs.Kept.{keeps_nothing}
-use Rattle.mkv_write.proofs.Prefix.{prefix_trans}
 use Rattle.mkv_write.proofs.writer.MkvWriter.start.Goals as goal
 
 -- an empty file
@@ -18,21 +17,20 @@ held_then private width height rate held first second held-is first-is second-is
 
 pub returns-in_err-history-clause-put : goal.returns-in_err-history-clause-put
 returns-in_err-history-clause-put g c =
-    puts_err _ _ _ _ _ c.from_residual.ensures.0 (λ t. nothing-prefix _ _ (c.requires.empty t))
+    puts_err _ _ _ _ c.from_residual.ensures.0 (λ t. nothing-prefix _ _ (c.requires.empty t))
 
 pub returns-in_err-preamble-clause-put : goal.returns-in_err-preamble-clause-put
 returns-in_err-preamble-clause-put g c =
-    puts_err _ _ _ _ _ c.from_residual-in_err-preamble.ensures.0 (λ t. nothing-prefix _ _ (c.requires.empty t))
+    puts_err _ _ _ _ c.from_residual-in_err-preamble.ensures.0 (λ t. nothing-prefix _ _ (c.requires.empty t))
 
 pub returns-in_err-lead-clause-put : goal.returns-in_err-lead-clause-put
 returns-in_err-lead-clause-put g c =
-    puts_err _ _ _ _ _ c.from_residual-in_err-lead.ensures.0 (λ t. nothing-prefix _ _ (c.requires.empty t))
+    puts_err _ _ _ _ c.from_residual-in_err-lead.ensures.0 (λ t. nothing-prefix _ _ (c.requires.empty t))
 
 pub returns-in_err-put_both-clause-put : goal.returns-in_err-put_both-clause-put
 returns-in_err-put_both-clause-put g c =
-    let w : Writing = nothing_yet c.args.private.now c.args.width c.args.height c.args.rate in
-    puts_err _ _ _ _ _ c.from_residual-in_err-put_both.ensures.0
-    (λ t. prefix_trans _ _ _ (c.in_err-put_both.ensures.put t) (subst (λ (x : List ℕ). IsPrefix x (file_of w)) (sym (held_then c.args.private.now c.args.width c.args.height c.args.rate _ _ _ (c.requires.empty t) (c.deref.ensures.value ∙ c.in_ok-preamble.ensures) (c.deref-2.ensures.value ∙ c.in_ok-lead.ensures))) (put_of-prefix_now w)))
+    puts_err _ _ _ _ c.from_residual-in_err-put_both.ensures.0
+    (λ t. subst (λ (x : List ℕ). IsPrefix (g.V.Vault.held c.put_both.new.vault) x) (held_then c.args.private.now c.args.width c.args.height c.args.rate _ _ _ (c.requires.empty t) (c.deref.ensures.value ∙ c.in_ok-preamble.ensures) (c.deref-2.ensures.value ∙ c.in_ok-lead.ensures)) (c.in_err-put_both.ensures.put t))
 
 pub invariant_of-result : goal.invariant_of-result
 invariant_of-result g c =

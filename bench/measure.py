@@ -1,0 +1,66 @@
+"""Time and peak memory of commands, for the measurements of this folder."""
+
+import os
+import subprocess
+import sys
+import time
+from pathlib import Path
+from typing import List, NamedTuple, Optional
+
+HERE = Path(__file__).resolve().parent
+WORK = HERE / "work"
+GNU_TIME = Path("/usr/bin/time")
+sys.path.insert(0, str(HERE.parent / "interop"))
+
+from tools import PROGRAM  # noqa: E402
+
+
+class Cost(NamedTuple):
+    """Seconds on the clock, and bytes at the peak."""
+
+    wall: float
+    memory: int
+
+
+def call(words: List[str]):
+    subprocess.run(words, cwd=WORK, stdin=subprocess.DEVNULL, stdout=subprocess.DEVNULL, check=True)
+
+
+def measure(words: List[str], target: Optional[str] = None, status=0) -> Cost:
+    """One run, which makes `target` and ends with that status.
+
+    Without GNU time the peak also counts this script, some 15 MB, until the command starts.
+    """
+    if target:
+        (WORK / target).unlink(missing_ok=True)
+    os.sync()
+    told = WORK / "peak"
+    timed = [str(GNU_TIME), "-q", "-f", "%M", "-o", str(told), *words] if GNU_TIME.exists() else words
+    start = time.perf_counter()
+    child = subprocess.Popen(timed, cwd=WORK, stdin=subprocess.DEVNULL, stdout=subprocess.DEVNULL)
+    _, ended, used = os.wait4(child.pid, 0)
+    wall = time.perf_counter() - start
+    child.returncode = os.waitstatus_to_exitcode(ended)
+    if child.returncode != status or target and not (WORK / target).exists():
+        raise SystemExit(f"{' '.join(words)} failed with status {child.returncode}")
+    kibibytes = int(told.read_text()) if GNU_TIME.exists() else used.ru_maxrss
+    return Cost(wall, kibibytes * 1024)
+
+
+def best(words: List[str], target: Optional[str] = None, status=0, rounds=3) -> Cost:
+    """The least time and the least peak of some runs."""
+    runs = [measure(words, target, status) for _ in range(rounds)]
+    return Cost(min(it.wall for it in runs), min(it.memory for it in runs))
+
+
+def warm(path: Path):
+    """Reads a file once, so that it lies in the cache."""
+    with open(path, "rb", buffering=0) as file:
+        while file.read(1 << 24):
+            pass
+
+
+def need_program():
+    """The launcher builds the program here, where it has to: without words that ends with status 2."""
+    if subprocess.run([PROGRAM], stdin=subprocess.DEVNULL, stdout=subprocess.DEVNULL).returncode != 2:
+        raise SystemExit("there is no program to measure")
