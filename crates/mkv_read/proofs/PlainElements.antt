@@ -1,14 +1,12 @@
 -- A master whose content is spelled by elements of known size has these elements, and what is looked up in them.
-use Rattle.std.proofs.Common.{◌≡◌, ℕ, zero, suc, ◌+◌, ◌-◌, ◌<◌, ◌≤◌, Bool, true, false, cond, eqb, List, [], ◌∷◌, ◌++◌, length, take, drop, Option, Some, None, Result, Ok, Err, refl, sym, ap, subst, ◌∙◌, arith}
+use Rattle.std.proofs.Common.{◌≡◌, ℕ, ◌+◌, ◌-◌, ◌≤◌, Bool, true, false, cond, eqb, List, [], ◌∷◌, ◌++◌, length, take, drop, Option, Some, None, Result, Ok, refl, sym, ap, ◌∙◌, arith}
 use Rattle.std.specs.List.{flat_map, AllByRecursion}
-use Rattle.std.proofs.lemmas.Bool.{ne_eqb, eqb-false, eqb-true, eq-eqb}
 use Rattle.std.proofs.lemmas.List.{length-append, length-take, drop_at, drop-take, drop-drop}
 use Rattle.ebml_core.specs.declared.element.Element.{Element}
 use Rattle.ebml_core.specs.declared.element.EbmlFault.{EbmlFault}
 use Rattle.ebml_core.specs.Spelling.{Piece, IsPiece, Holds, spelling, element_of, elements_from, between}
 use Rattle.ebml_core.specs.Reading.{element_at}
-use Rattle.ebml_core.specs.Walking.{Walk, ends, gives, whole}
-use Rattle.ebml_core.proofs.Pieces.{spelling-some}
+use Rattle.ebml_core.specs.Walking.{gives, whole}
 use Rattle.ebml_core.proofs.Headers.{element_at-again}
 use Rattle.mkv_read.specs.Plain.{named, Lacks}
 use Rattle.mkv_read.specs.Elements.{ended, ended_in, next_at, elements, first_where, first}

@@ -1,19 +1,15 @@
 -- No element of a plain file is faulty.
-use Rattle.std.proofs.Common.{◌≡◌, ℕ, suc, ◌+◌, ◌-◌, ◌<◌, ◌≤◌, Bool, true, false, cond, eqb, ltb, List, [], ◌∷◌, ◌++◌, length, take, drop, Option, Some, None, Result, Ok, Err, refl, sym, ap, subst, ◌∙◌, arith}
+use Rattle.std.proofs.Common.{◌≡◌, ℕ, ◌+◌, ◌-◌, Bool, true, false, cond, eqb, ltb, List, [], ◌∷◌, ◌++◌, length, drop, Some, None, Ok, refl, sym, ap, subst, ◌∙◌, arith}
 use Rattle.std.specs.List.{AllByRecursion}
 use Rattle.std.specs.Prelude.{bit_and}
-use Rattle.std.proofs.lemmas.Bool.{eqb-true, ne_eqb, le-ltb}
-use Rattle.std.proofs.lemmas.List.{length-append, length-take-le, length-drop, drop_at}
+use Rattle.std.proofs.lemmas.Bool.{eqb-true, le-ltb}
+use Rattle.std.proofs.lemmas.List.{length-take-le, length-drop, drop_at}
 use Rattle.ebml_core.specs.declared.element.Element.{Element}
-use Rattle.ebml_core.specs.declared.vint.Size.{Size}
 use Rattle.ebml_core.specs.declared.vint.Size.TheVariants.{Known}
-use Rattle.ebml_core.specs.declared.vint.VintFault.{VintFault}
-use Rattle.ebml_core.specs.Spelling.{Holds, between}
 use Rattle.ebml_core.specs.Reading.{size_at}
-use Rattle.ebml_core.specs.Walking.{Walk, gives, whole}
+use Rattle.ebml_core.specs.Walking.{whole}
 use Rattle.ebml_core.proofs.Headers.{size_at-again}
-use Rattle.mkv_elements.specs.declared.TheConstants.{EBML, DOC_TYPE, SEGMENT, TRACKS, TRACK_ENTRY, TRACK_NUMBER, TRACK_TYPE, CODEC_ID, CODEC_PRIVATE, VIDEO, PIXEL_WIDTH, PIXEL_HEIGHT, CLUSTER, TIMESTAMP, SIMPLE_BLOCK, BLOCK_GROUP}
-use Rattle.mkv_elements.specs.declared.table.Kind.{Kind}
+use Rattle.mkv_elements.specs.declared.TheConstants.{CLUSTER, SIMPLE_BLOCK}
 use Rattle.mkv_elements.specs.declared.table.Kind.TheVariants as kinds
 use Rattle.mkv_elements.specs.Table.{kind_in}
 use Rattle.mkv_read.specs.declared.clip.Place.{Place}
@@ -21,12 +17,12 @@ use Rattle.mkv_read.specs.declared.block.Head.{Head}
 use Rattle.mkv_read.specs.Plain as plain
 use Rattle.mkv_read.specs.Plain.{content_of, named, Lacks, Children, HasOne, IsNumber, IsMatroska, IsSide, IsTrack, IsFfv1, IsBlock, AreBlocks, IsCluster, AreClusters, IsSegment, signed_plus_32768}
 use Rattle.mkv_read.specs.Reading.{LiesWithin}
-use Rattle.mkv_read.specs.Elements.{elements, elements_in}
-use Rattle.mkv_read.specs.Faults.{head_at, behind, of_size, first_fault, fault_in, element_fault}
-use Rattle.mkv_read.proofs.Elements.{AreKnown, Holds-known, split_named, named-append, named-split}
+use Rattle.mkv_read.specs.Elements.{elements_in}
+use Rattle.mkv_read.specs.Faults.{head_at, behind, of_size, fault_in, element_fault}
+use Rattle.mkv_read.proofs.Elements.{AreKnown, Holds-known, named-append}
 use Rattle.mkv_read.proofs.Within.{AllLie, Children-lie}
-use Rattle.mkv_read.proofs.PlainElements.{Holds-elements, all_by_ids, first_fault-none}
-use Rattle.mkv_read.proofs.TableKinds.{others_in_header, doc_type_in_header, others_in_segment, tracks_in_segment, cluster_in_segment, others_in_tracks, entry_in_tracks, others_in_entry, number_in_entry, type_in_entry, video_in_entry, others_in_video, width_in_video, height_in_video, others_in_cluster, timestamp_in_cluster, block_in_cluster}
+use Rattle.mkv_read.proofs.PlainElements.{Holds-elements}
+use Rattle.mkv_read.proofs.TableKinds.{block_in_cluster}
 
 -- ---- the elements of an id
 

@@ -1,23 +1,21 @@
 -- In each master of a plain file no element is faulty.
-use Rattle.std.proofs.Common.{◌≡◌, ℕ, suc, ◌≤◌, Bool, true, false, eqb, List, [], ◌∷◌, ◌++◌, length, Option, Some, None, refl, sym, ap, subst, ◌∙◌, arith}
+use Rattle.std.proofs.Common.{◌≡◌, ℕ, suc, false, eqb, List, [], ◌∷◌, ◌++◌, length, None, sym, ap, subst, ◌∙◌}
 use Rattle.std.specs.List.{AllByRecursion}
 use Rattle.ebml_core.specs.declared.element.Element.{Element}
-use Rattle.ebml_core.specs.Spelling.{Holds}
-use Rattle.ebml_core.specs.Walking.{Walk}
 use Rattle.mkv_elements.specs.declared.TheConstants.{EBML, DOC_TYPE, SEGMENT, TRACKS, TRACK_ENTRY, TRACK_NUMBER, TRACK_TYPE, CODEC_ID, CODEC_PRIVATE, VIDEO, PIXEL_WIDTH, PIXEL_HEIGHT, CLUSTER, TIMESTAMP, SIMPLE_BLOCK, BLOCK_GROUP}
 use Rattle.mkv_elements.specs.Table.{kind_in}
 use Rattle.mkv_read.specs.declared.clip.Place.{Place}
 use Rattle.mkv_read.specs.declared.clip.ClipIndex.{ClipIndex}
-use Rattle.mkv_read.specs.declared.track.TheConstants.{VIDEO_TYPE}
+use Rattle.mkv_read.specs.Limits.{video_type}
 use Rattle.mkv_read.specs.Plain as plain
 use Rattle.mkv_read.specs.Plain.{named, Lacks, Children, HasOne, IsMatroska, IsSide, IsTrack, AreBlocks, IsCluster, AreClusters, IsSegment}
 use Rattle.mkv_read.specs.Reading.{LiesWithin}
 use Rattle.mkv_read.specs.Elements.{elements_in}
 use Rattle.mkv_read.specs.Faults.{first_fault, fault_in, element_fault}
-use Rattle.mkv_read.proofs.Elements.{Holds-known, named-split, named-append}
+use Rattle.mkv_read.proofs.Elements.{Holds-known, named-split}
 use Rattle.mkv_read.proofs.PlainElements.{Holds-elements, all_by_ids, first_fault-none}
 use Rattle.mkv_read.proofs.PlainFaults.{IsChild, IsSound, named_behind, same_children, named_children, one_child, other_sound, text_sound, text_or_bytes_sound, number_sound, master_sound, block_sound}
-use Rattle.mkv_read.proofs.TableKinds.{others_in_header, doc_type_in_header, others_in_segment, tracks_in_segment, cluster_in_segment, others_in_tracks, entry_in_tracks, others_in_entry, number_in_entry, type_in_entry, video_in_entry, others_in_video, width_in_video, height_in_video, others_in_cluster, timestamp_in_cluster, block_in_cluster}
+use Rattle.mkv_read.proofs.TableKinds.{others_in_header, doc_type_in_header, others_in_segment, tracks_in_segment, cluster_in_segment, others_in_tracks, entry_in_tracks, others_in_entry, number_in_entry, type_in_entry, video_in_entry, others_in_video, width_in_video, height_in_video, others_in_cluster, timestamp_in_cluster}
 
 -- a master whose children are sound
 all_sound : (levels : ℕ) (bytes : List ℕ) (parent : ℕ) (master : Element) (es : List Element) → Children bytes master es → AllByRecursion (IsSound levels bytes parent) es → fault_in (suc levels) bytes parent (elements_in bytes master) ≡ None
@@ -55,7 +53,7 @@ tracks_sound levels bytes tracks number width height private lies h =
     let videos = same_children bytes h.entry h.one_video.children es h.one_video.held f.one_number.held in
     let video = one_child bytes h.entry VIDEO h.video entry.lies h.one_video in
     let ns = alone (suc levels) bytes TRACK_ENTRY TRACK_NUMBER es f.number_element f.one_number.one (number_sound (suc levels) bytes TRACK_ENTRY TRACK_NUMBER f.number_element number (one_child bytes h.entry TRACK_NUMBER f.number_element entry.lies f.one_number) number_in_entry f.number_is) in
-    let ts = alone (suc levels) bytes TRACK_ENTRY TRACK_TYPE es f.type_element (ap (named TRACK_TYPE) (sym types) ∙ f.one_type.one) (number_sound (suc levels) bytes TRACK_ENTRY TRACK_TYPE f.type_element VIDEO_TYPE (one_child bytes h.entry TRACK_TYPE f.type_element entry.lies f.one_type) type_in_entry f.type_is) in
+    let ts = alone (suc levels) bytes TRACK_ENTRY TRACK_TYPE es f.type_element (ap (named TRACK_TYPE) (sym types) ∙ f.one_type.one) (number_sound (suc levels) bytes TRACK_ENTRY TRACK_TYPE f.type_element video_type (one_child bytes h.entry TRACK_TYPE f.type_element entry.lies f.one_type) type_in_entry f.type_is) in
     let vs = alone (suc levels) bytes TRACK_ENTRY VIDEO es h.video (ap (named VIDEO) (sym videos) ∙ h.one_video.one) (master_sound (suc levels) bytes TRACK_ENTRY VIDEO h.video video video_in_entry (video_sound levels bytes h.video width height video.lies h.width_is h.height_is)) in
     let inside : fault_in (suc (suc levels)) bytes TRACK_ENTRY (elements_in bytes h.entry) ≡ None = all_sound (suc levels) bytes TRACK_ENTRY h.entry es f.one_number.held (all_by_ids (IsSound (suc levels) bytes TRACK_ENTRY) TRACK_NUMBER TRACK_TYPE VIDEO es ns ts vs known (λ e known a b d. text_or_bytes_sound (suc levels) bytes TRACK_ENTRY e (eqb CODEC_ID e.id) (eqb CODEC_PRIVATE e.id) known (others_in_entry e.id a b d))) in
     let those = alone (suc (suc levels)) bytes TRACKS TRACK_ENTRY h.one_entry.children h.entry h.one_entry.one (master_sound (suc (suc levels)) bytes TRACKS TRACK_ENTRY h.entry entry entry_in_tracks inside) in

@@ -32,7 +32,7 @@ require_some false u h = absurd cc
 text-is : (text name : List ℕ) → bytes_eq text name ≡ true → text ≡ name
 text-is text name h = (bytes_eq-Decides text name).0 h
 
-is-text : (text name : List ℕ) → text ≡ name → bytes_eq text name ≡ true
+pub is-text : (text name : List ℕ) → text ≡ name → bytes_eq text name ≡ true
 is-text text name h = (bytes_eq-Decides text name).1 h
 
 pub side_at-IsSide : (bytes : List ℕ) (video : Element) (id n : ℕ) → AreBytes bytes → side_at bytes video id ≡ Some n → IsSide bytes video id n

@@ -13,7 +13,7 @@ mod visit;
 pub use clip::{ClipIndex, MAX_FRAMES, MAX_PRIVATE, MAX_SIDE, Place, Places};
 pub use fault::{ClipFault, Which};
 pub use file::read_clip;
-pub use plain::{PlainFault, one_clip, read_plain_clip};
+pub use plain::{PlainFault, one_clip, plain_is_whole, read_plain_clip};
 
 #[cfg(test)]
 mod tests;

@@ -9,7 +9,7 @@ mod track;
 
 pub use fault::PlainFault;
 pub use file::read_plain_clip;
-pub use laws::one_clip;
+pub use laws::{one_clip, plain_is_whole};
 
 #[cfg(test)]
 mod tests;
