@@ -11,11 +11,11 @@ use Rattle.mkv_elements.specs.Table.{kind_in}
 use Rattle.mkv_read.specs.declared.clip.Place.{Place}
 use Rattle.mkv_read.specs.declared.block.Block.{Block}
 use Rattle.mkv_read.specs.Plain as plain
-use Rattle.mkv_read.specs.Plain.{content_of, named, Lacks, IsNumber, IsBlock, AreBlocks, IsCluster, AreClusters, NeverFall}
-use Rattle.mkv_read.specs.Elements.{elements_in, first, number_of}
+use Rattle.mkv_read.specs.Plain.{named, Lacks, IsNumber, IsBlock, AreBlocks, IsCluster, AreClusters, NeverFall}
+use Rattle.mkv_read.specs.Elements.{content_of, elements_in, first, number_of}
 use Rattle.mkv_read.specs.Faults.{head_at}
 use Rattle.mkv_read.specs.Blocks.{block_of, each_block, time_in, blocks_as, blocks_in, element_blocks, block_fault, fault_after}
-use Rattle.mkv_read.proofs.Elements.{named-split}
+use Rattle.mkv_read.proofs.Held.{named-split}
 use Rattle.mkv_read.proofs.PlainElements.{Holds-elements, first-named}
 use Rattle.mkv_read.proofs.PlainFaults.{block_head, named_behind}
 use Rattle.mkv_read.proofs.TableKinds.{others_in_header, doc_type_in_header, others_in_segment, tracks_in_segment, cluster_in_segment, others_in_tracks, entry_in_tracks, others_in_entry, number_in_entry, type_in_entry, video_in_entry, others_in_video, width_in_video, height_in_video, others_in_cluster, timestamp_in_cluster, block_in_cluster}

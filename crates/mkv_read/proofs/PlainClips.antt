@@ -15,17 +15,17 @@ use Rattle.mkv_elements.specs.Table.{kind_in}
 use Rattle.mkv_read.specs.declared.clip.Place.{Place}
 use Rattle.mkv_read.specs.declared.clip.ClipIndex.{ClipIndex}
 use Rattle.mkv_read.specs.declared.block.Block.{Block}
+use Rattle.mkv_read.specs.declared.fault.ClipFault.{ClipFault}
 use Rattle.mkv_read.specs.Limits.{max_side, max_private, max_frames, video_type, depth}
-use Rattle.mkv_read.specs.Plain.{content_of, text_of, named, AreClusters, HasOne, IsNumber, IsSide, IsTrack, IsSegment, IsPlainFile}
-use Rattle.mkv_read.specs.Reading.{LiesWithin}
-use Rattle.mkv_read.specs.Elements.{next_at, elements, elements_in, first_where, first, number_of}
+use Rattle.mkv_read.specs.Plain.{named, AreClusters, HasOne, IsNumber, IsSide, IsTrack, IsSegment, IsPlainFile}
+use Rattle.mkv_read.specs.Elements.{content_of, text_of, LiesWithin, next_at, elements, elements_in, first_where, first, number_of}
 use Rattle.mkv_read.specs.Faults.{fault_in, element_fault}
 use Rattle.mkv_read.specs.Blocks.{each_block, blocks_in, element_blocks, time_in}
 use Rattle.mkv_read.specs.Tracks.{is_text, record_place, is_video, is_ffv1, side_of, track_within, track_with, track_in, track_of}
 use Rattle.mkv_read.specs.Clip.{segment_of, end_or, file_of, fault_of, has_doc_type, is_matroska, packed, clip_with, clip_of}
-use Rattle.mkv_read.proofs.Elements.{named-split, Holds-known}
-use Rattle.mkv_read.proofs.Tracks.{is-text}
-use Rattle.mkv_read.proofs.Within.{Holds-lie}
+use Rattle.mkv_read.proofs.Held.{named-split, Holds-known}
+use Rattle.mkv_read.proofs.Held.{is-text}
+use Rattle.mkv_read.proofs.Held.{Holds-lie}
 use Rattle.mkv_read.proofs.Listing.{elements-step}
 use Rattle.mkv_read.proofs.PlainElements.{Holds-elements, first_where-named, first-named, first-lacks, first_fault-none}
 use Rattle.mkv_read.proofs.PlainFaults.{IsSound, named_behind, master_sound}
@@ -220,3 +220,10 @@ unfolding clip_of
 plain-whole bytes clip h =
     let f : IsFile bytes h.header h.segment = record { held = h.file; is_header = h.is_header; is_segment = h.is_segment } in
     rw (no_fault_of bytes clip h, matroska_is bytes clip h, segment_is bytes h.header h.segment f, track_is bytes h.segment clip h.holds, file_is bytes h.header h.segment f) (clip_is bytes clip h _ (file_blocks bytes clip h))
+
+ok_is : (a b : ClipIndex) (r : Result ClipIndex ClipFault) → r ≡ Ok a → r ≡ Ok b → a ≡ b
+ok_is a b r ha hb = cc
+
+-- A plain file holds one clip.
+pub same_clips : (bytes : List ℕ) (a b : ClipIndex) → IsPlainFile bytes a → IsPlainFile bytes b → a ≡ b
+same_clips bytes a b ha hb = ok_is a b (clip_of bytes) (plain-whole bytes a ha) (plain-whole bytes b hb)

@@ -11,7 +11,7 @@ use Rattle.ebml_core.proofs.Headers.{element_at-again}
 use Rattle.mkv_read.specs.Plain.{named, Lacks}
 use Rattle.mkv_read.specs.Elements.{ended, ended_in, next_at, elements, first_where, first}
 use Rattle.mkv_read.specs.Faults.{first_fault, else_place}
-use Rattle.mkv_read.proofs.Elements.{AreKnown}
+use Rattle.mkv_read.proofs.Held.{AreKnown}
 use Rattle.mkv_read.proofs.Listing.{elements-gives, elements-ends}
 
 ended_known : (bytes : List ℕ) (e : Element) → e.unknown ≡ false → ended bytes e ≡ e

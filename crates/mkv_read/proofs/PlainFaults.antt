@@ -15,12 +15,11 @@ use Rattle.mkv_elements.specs.Table.{kind_in}
 use Rattle.mkv_read.specs.declared.clip.Place.{Place}
 use Rattle.mkv_read.specs.declared.block.Head.{Head}
 use Rattle.mkv_read.specs.Plain as plain
-use Rattle.mkv_read.specs.Plain.{content_of, named, Lacks, Children, HasOne, IsNumber, IsMatroska, IsSide, IsTrack, IsFfv1, IsBlock, AreBlocks, IsCluster, AreClusters, IsSegment, signed_plus_32768}
-use Rattle.mkv_read.specs.Reading.{LiesWithin}
-use Rattle.mkv_read.specs.Elements.{elements_in}
-use Rattle.mkv_read.specs.Faults.{head_at, behind, of_size, fault_in, element_fault}
-use Rattle.mkv_read.proofs.Elements.{AreKnown, Holds-known, named-append}
-use Rattle.mkv_read.proofs.Within.{AllLie, Children-lie}
+use Rattle.mkv_read.specs.Plain.{named, Lacks, Children, HasOne, IsNumber, IsMatroska, IsSide, IsTrack, IsFfv1, IsBlock, AreBlocks, IsCluster, AreClusters, IsSegment}
+use Rattle.mkv_read.specs.Elements.{content_of, LiesWithin, elements_in}
+use Rattle.mkv_read.specs.Faults.{signed_plus_32768, head_at, behind, of_size, fault_in, element_fault}
+use Rattle.mkv_read.proofs.Held.{AreKnown, Holds-known, named-append}
+use Rattle.mkv_read.proofs.Held.{AllLie, Children-lie}
 use Rattle.mkv_read.proofs.PlainElements.{Holds-elements}
 use Rattle.mkv_read.proofs.TableKinds.{block_in_cluster}
 

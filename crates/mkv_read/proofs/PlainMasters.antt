@@ -9,10 +9,9 @@ use Rattle.mkv_read.specs.declared.clip.ClipIndex.{ClipIndex}
 use Rattle.mkv_read.specs.Limits.{video_type}
 use Rattle.mkv_read.specs.Plain as plain
 use Rattle.mkv_read.specs.Plain.{named, Lacks, Children, HasOne, IsMatroska, IsSide, IsTrack, AreBlocks, IsCluster, AreClusters, IsSegment}
-use Rattle.mkv_read.specs.Reading.{LiesWithin}
-use Rattle.mkv_read.specs.Elements.{elements_in}
+use Rattle.mkv_read.specs.Elements.{LiesWithin, elements_in}
 use Rattle.mkv_read.specs.Faults.{first_fault, fault_in, element_fault}
-use Rattle.mkv_read.proofs.Elements.{Holds-known, named-split}
+use Rattle.mkv_read.proofs.Held.{Holds-known, named-split}
 use Rattle.mkv_read.proofs.PlainElements.{Holds-elements, all_by_ids, first_fault-none}
 use Rattle.mkv_read.proofs.PlainFaults.{IsChild, IsSound, named_behind, same_children, named_children, one_child, other_sound, text_sound, text_or_bytes_sound, number_sound, master_sound, block_sound}
 use Rattle.mkv_read.proofs.TableKinds.{others_in_header, doc_type_in_header, others_in_segment, tracks_in_segment, cluster_in_segment, others_in_tracks, entry_in_tracks, others_in_entry, number_in_entry, type_in_entry, video_in_entry, others_in_video, width_in_video, height_in_video, others_in_cluster, timestamp_in_cluster}
