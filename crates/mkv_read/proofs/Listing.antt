@@ -10,8 +10,7 @@ use Rattle.ebml_core.specs.Walking.{Walk, ends, breaks, gives, onward, LiesAt}
 use Rattle.ebml_core.proofs.Headers.{element_at-advances, element_at-starts}
 use Rattle.ebml_core.proofs.Endings.{end_before-above}
 use Rattle.mkv_elements.specs.declared.TheConstants.{CLUSTER, TOP_LEVEL}
-use Rattle.mkv_read.specs.Plain.{content_of}
-use Rattle.mkv_read.specs.Elements.{ended, ended_in, next_at, elements_upto, elements, first_where}
+use Rattle.mkv_read.specs.Elements.{content_of, ended, ended_in, next_at, elements_upto, elements, first_where}
 
 ended_some : (bytes : List ℕ) (r : Result (Option Element) EbmlFault) (e : Element) → ended_in bytes r ≡ Ok (Some e) → (d : Element) × (r ≡ Ok (Some d)) × (ended bytes d ≡ e)
 ended_some bytes (Ok None) e h = absurd cc

@@ -7,8 +7,8 @@ use Rattle.ebml_core.specs.declared.element.Element.{Element}
 use Rattle.mkv_read.specs.declared.clip.Place.{Place}
 use Rattle.mkv_read.specs.declared.block.Head.{Head}
 use Rattle.mkv_read.specs.declared.fault.ClipFault.{ClipFault}
-use Rattle.mkv_read.specs.Plain.{content_of, LiesBefore}
-use Rattle.mkv_read.specs.Elements.{LiesWithin}
+use Rattle.mkv_read.specs.Plain.{LiesBefore}
+use Rattle.mkv_read.specs.Elements.{content_of, LiesWithin}
 use Rattle.mkv_read.specs.Blocks.{block_of}
 use Rattle.mkv_read.specs.Taking.{Taken, take, take_all}
 

@@ -10,8 +10,7 @@ use Rattle.mkv_read.specs.declared.block.Head.{Head}
 use Rattle.mkv_read.specs.declared.block.Block.{Block}
 use Rattle.mkv_read.specs.declared.fault.ClipFault.{ClipFault}
 use Rattle.mkv_read.specs.declared.fault.ClipFault.TheVariants as faults
-use Rattle.mkv_read.specs.Plain.{content_of}
-use Rattle.mkv_read.specs.Elements.{elements_in, first, number_of}
+use Rattle.mkv_read.specs.Elements.{content_of, elements_in, first, number_of}
 use Rattle.mkv_read.specs.Faults.{head_at}
 
 -- The block of an element, where it is of this track.
@@ -21,6 +20,7 @@ block_of (Some track) time e None = []
 block_of (Some track) time e (Some head) =
     if head.track == track then record { at = e.start; time = time + head.time; laced = not (bit_and head.flags 6 == 0); packet = head.packet } ∷ [] else []
 
+-- the blocks of each of these elements, in order
 unfoldable pub each_block : (Element → List Block) → Walk → List Block
 each_block blocks ends = []
 each_block blocks (breaks fault) = []
@@ -30,6 +30,7 @@ each_block blocks (gives e rest) = blocks e ++ each_block blocks rest
 abbrev pub time_in : List ℕ → ℕ → Element → ℕ
 time_in bytes time e = if e.id == CLUSTER then number_of bytes (first TIMESTAMP (elements_in bytes e)) else time
 
+-- the blocks of an element that is read as this
 abbrev pub blocks_as : List ℕ → Option ℕ → ℕ → Element → List Block → Option Kind → List Block
 blocks_as bytes track time e inside (Some kinds.Master) = inside
 blocks_as bytes track time e inside (Some kinds.Block) = block_of track time e (head_at e.content (content_of bytes e))

@@ -18,6 +18,7 @@ use Rattle.mkv_read.specs.Blocks.{blocks_in, fault_after}
 use Rattle.mkv_read.specs.Tracks.{is_text, track_of}
 use Rattle.mkv_read.specs.Limits.{max_frames, depth}
 
+-- the Segment that is read
 unfoldable pub segment_of : List ℕ → Option Element
 segment_of bytes = first SEGMENT (elements bytes 0 (length bytes))
 
@@ -72,6 +73,7 @@ pub record IsWithinLimits (clip : ClipIndex) : Type 0 where
   pub private : (1 ≤ clip.private.len) × (clip.private.len ≤ 65536)
   pub frames : (1 ≤ length clip.packets) × (length clip.packets ≤ 1000000)
 
+-- A sound file of Matroska, its track, and that track's blocks.
 unfoldable pub clip_of : List ℕ → Result ClipIndex ClipFault
 clip_of bytes = do
   sound ← unless_faulty (fault_of bytes)

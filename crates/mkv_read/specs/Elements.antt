@@ -1,17 +1,21 @@
 -- The elements of a master, one after the other (RFC 8794 section 6, RFC 9559 section 5.1), and what is looked up in them.
 use Rattle.std.specs.Prelude.{ℕ, suc, zero, ◌-◌, ◌≤◌, ◌==◌, nat_lt, Bool, ◌&&◌, List, length, Option, Some, None, Result, Ok, Err, if◌then◌else◌}
+use Rattle.std.specs.List.{before_first}
 use Rattle.ebml_core.specs.declared.element.Element.{Element}
 use Rattle.ebml_core.specs.declared.element.EbmlFault.{EbmlFault}
 use Rattle.ebml_core.specs.Spelling.{unsigned_of, between}
 use Rattle.ebml_core.specs.Reading.{element_at}
 use Rattle.ebml_core.specs.Walking.{Walk, ends, breaks, gives, onward, walk, end_before}
 use Rattle.mkv_elements.specs.declared.TheConstants.{CLUSTER, TOP_LEVEL}
-use Rattle.mkv_read.specs.Plain.{content_of}
 
 -- an element whose content lies before a place
 pub record LiesWithin (end : ℕ) (e : Element) : Type 0 where
   pub content : e.content ≤ e.end
   pub within : e.end ≤ end
+
+-- the bytes of an element's content
+abbrev pub content_of : List ℕ → Element → List ℕ
+content_of bytes e = between bytes e.content e.end
 
 -- An element with its end put right: a Cluster of unknown size ends before the first element that stands beside Clusters, and where there is none, with its Segment.
 unfoldable pub ended : List ℕ → Element → Element
@@ -54,3 +58,7 @@ first id es = first_where (λ e. e.id == id) es
 abbrev pub number_of : List ℕ → Option Element → ℕ
 number_of bytes None = 0
 number_of bytes (Some e) = if nat_lt 8 (length (content_of bytes e)) then 0 else unsigned_of (content_of bytes e)
+
+-- A text ends before its first 0 byte (RFC 8794 section 7.4).
+abbrev pub text_of : List ℕ → List ℕ
+text_of padded = before_first (λ byte. byte == 0) padded

@@ -1,5 +1,5 @@
 -- The first faulty element of a file, in file order (RFC 8794 section 6, RFC 9559 sections 5.1 and 10).
-use Rattle.std.specs.Prelude.{ℕ, suc, zero, ◌+◌, ◌-◌, ◌==◌, nat_lt, Bool, ◌&&◌, ◌||◌, not, List, [], ◌∷◌, length, drop, Option, Some, None, is_none, Result, Ok, Err, if◌then◌else◌}
+use Rattle.std.specs.Prelude.{ℕ, suc, zero, ◌+◌, ◌-◌, ◌*◌, ◌%◌, ◌==◌, nat_lt, Bool, ◌&&◌, ◌||◌, not, List, [], ◌∷◌, length, drop, Option, Some, None, is_none, Result, Ok, Err, if◌then◌else◌}
 use Rattle.std.specs.List.{list_any}
 use Rattle.ebml_core.specs.declared.element.Element.{Element}
 use Rattle.ebml_core.specs.declared.vint.Size.{Size}
@@ -12,9 +12,13 @@ use Rattle.mkv_elements.specs.declared.table.Kind.TheVariants as kinds
 use Rattle.mkv_elements.specs.declared.table.TheConstants.{MAY_BE_UNKNOWN}
 use Rattle.mkv_elements.specs.Table.{kind_in}
 use Rattle.mkv_read.specs.declared.block.Head.{Head}
-use Rattle.mkv_read.specs.Plain.{content_of, signed_plus_32768}
-use Rattle.mkv_read.specs.Elements.{elements_in}
+use Rattle.mkv_read.specs.Elements.{content_of, elements_in}
 
+-- A signed number of 16 bits, the high octet first, plus 32,768.
+abbrev pub signed_plus_32768 : ℕ → ℕ → ℕ
+signed_plus_32768 high low = (256 * high + low + 32768) % 65536
+
+-- what follows the number of a block's track, at a place: the time, the flags and the packet
 abbrev pub behind : ℕ → ℕ → List ℕ → Option Head
 behind track place [] = None
 behind track place (high ∷ []) = None
@@ -22,6 +26,7 @@ behind track place (high ∷ low ∷ []) = None
 behind track place (high ∷ low ∷ flags ∷ packet) =
     Some (record { track = track; time = signed_plus_32768 high low; flags = flags; packet = record { from = place + 3; len = length packet } })
 
+-- a block's head, by what is read at its front as a size is
 abbrev pub of_size : ℕ → List ℕ → Result (Size × ℕ) VintFault → Option Head
 of_size place content (Err fault) = None
 of_size place content (Ok (Unknown, octets)) = None
@@ -31,6 +36,7 @@ of_size place content (Ok (Known track, octets)) = behind track (place + octets)
 unfoldable pub head_at : ℕ → List ℕ → Option Head
 head_at place content = of_size place content (size_at content)
 
+-- whether an element's size may be unknown
 abbrev pub may_be_unknown : ℕ → Bool
 may_be_unknown id = list_any (λ other. other == id) MAY_BE_UNKNOWN
 
@@ -41,6 +47,7 @@ is_faulty_as bytes e (Some kinds.Unsigned) = e.unknown || nat_lt 8 (e.end - e.co
 is_faulty_as bytes e (Some kinds.Block) = e.unknown || is_none (head_at e.content (content_of bytes e))
 is_faulty_as bytes e other = e.unknown
 
+-- the first of two places, where there is one
 abbrev pub else_place : Option ℕ → Option ℕ → Option ℕ
 else_place (Some at) later = Some at
 else_place None later = later

@@ -1,21 +1,18 @@
 -- Plain Matroska files (RFC 9559), and the clip that each holds.
-use Rattle.std.specs.Prelude.{◌≡◌, ℕ, ◌+◌, ◌*◌, ◌%◌, ◌≤◌, ◌==◌, List, [], ◌∷◌, ◌++◌, length, map, filter, bit_and, codes}
-use Rattle.std.specs.List.{before_first}
+use Rattle.std.specs.Prelude.{◌≡◌, ℕ, ◌+◌, ◌≤◌, ◌==◌, List, [], ◌∷◌, ◌++◌, length, map, filter, bit_and, codes}
 use Rattle.ebml_core.specs.declared.element.Element.{Element}
 use Rattle.ebml_core.specs.declared.vint.Size.TheVariants.{Known}
-use Rattle.ebml_core.specs.Spelling.{unsigned_of, IsSize, Holds, between}
+use Rattle.ebml_core.specs.Spelling.{unsigned_of, IsSize, Holds}
 use Rattle.mkv_elements.specs.declared.TheConstants.{EBML, DOC_TYPE, SEGMENT, TRACKS, TRACK_ENTRY, TRACK_NUMBER, TRACK_TYPE, CODEC_ID, CODEC_PRIVATE, CONTENT_ENCODINGS, VIDEO, PIXEL_WIDTH, PIXEL_HEIGHT, CLUSTER, TIMESTAMP, SIMPLE_BLOCK, BLOCK_GROUP}
 use Rattle.mkv_read.specs.declared.clip.Place.{Place}
 use Rattle.mkv_read.specs.declared.clip.ClipIndex.{ClipIndex}
+use Rattle.mkv_read.specs.Elements.{content_of, text_of}
+use Rattle.mkv_read.specs.Faults.{signed_plus_32768}
 use Rattle.mkv_read.specs.Limits.{max_side, max_private, max_frames, video_type}
 
 -- a place that lies before an end
 abbrev pub LiesBefore : ℕ → Place → Type 0
 LiesBefore end place = place.from + place.len ≤ end
-
--- the bytes of an element's content
-abbrev pub content_of : List ℕ → Element → List ℕ
-content_of bytes e = between bytes e.content e.end
 
 -- A master's content is these elements, all of known size.
 abbrev pub Children : List ℕ → Element → List Element → Type 0
@@ -43,10 +40,6 @@ pub record HasNone (bytes : List ℕ) (master : Element) (id : ℕ) : Type 0 whe
 pub record IsNumber (bytes : List ℕ) (e : Element) (n : ℕ) : Type 0 where
   pub short : length (content_of bytes e) ≤ 8
   pub value : unsigned_of (content_of bytes e) ≡ n
-
--- A text ends before its first 0 byte (RFC 8794 section 7.4).
-abbrev pub text_of : List ℕ → List ℕ
-text_of padded = before_first (λ byte. byte == 0) padded
 
 -- the EBML header of a Matroska file (RFC 9559 section 4)
 pub record IsMatroska (bytes : List ℕ) (header : Element) : Type 0 where
@@ -99,10 +92,6 @@ pub record IsTrack (bytes : List ℕ) (tracks : Element) (number width height : 
 pub record Block : Type 0 where
   pub time : ℕ
   pub packet : Place
-
--- A signed number of 16 bits, the high octet first, plus 32,768.
-abbrev pub signed_plus_32768 : ℕ → ℕ → ℕ
-signed_plus_32768 high low = (256 * high + low + 32768) % 65536
 
 -- a SimpleBlock of this track, without lacing, in a Cluster of this time (RFC 9559 section 10.2)
 pub record IsBlock (bytes : List ℕ) (number timestamp : ℕ) (e : Element) (block : Block) : Type 0 where

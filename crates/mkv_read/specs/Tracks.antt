@@ -9,10 +9,10 @@ use Rattle.mkv_read.specs.declared.fault.ClipFault.{ClipFault}
 use Rattle.mkv_read.specs.declared.fault.ClipFault.TheVariants as faults
 use Rattle.mkv_read.specs.declared.fault.Which.TheVariants as limits
 use Rattle.mkv_read.specs.declared.track.Track.{Track}
-use Rattle.mkv_read.specs.Plain.{content_of, text_of}
-use Rattle.mkv_read.specs.Elements.{elements_in, first_where, first, number_of}
+use Rattle.mkv_read.specs.Elements.{content_of, text_of, elements_in, first_where, first, number_of}
 use Rattle.mkv_read.specs.Limits.{max_side, max_private, video_type}
 
+-- whether there is an element with this text
 abbrev pub is_text : List ℕ → List ℕ → Option Element → Bool
 is_text bytes text None = false
 is_text bytes text (Some e) = bytes_eq (text_of (content_of bytes e)) text
@@ -50,9 +50,11 @@ record_place bytes entry =
     if is_text bytes (codes "V_FFV1") (first CODEC_ID es) then Some (private_place (first CODEC_PRIVATE es)) else (
     if is_text bytes (codes "V_MS/VFW/FOURCC") (first CODEC_ID es) then fourcc_place bytes (first CODEC_PRIVATE es) else None)
 
+-- whether an element is a TrackEntry of video
 unfoldable pub is_video : List ℕ → Element → Bool
 is_video bytes e = e.id == TRACK_ENTRY && number_of bytes (first TRACK_TYPE (elements_in bytes e)) == video_type
 
+-- whether an element is a TrackEntry of video of FFV1
 unfoldable pub is_ffv1 : List ℕ → Element → Bool
 is_ffv1 bytes e = is_video bytes e && is_some (record_place bytes e)
 
@@ -61,6 +63,7 @@ unfoldable pub side_of : List ℕ → ℕ → Option Element → ℕ
 side_of bytes id None = 0
 side_of bytes id (Some video) = number_of bytes (first id (elements_in bytes video))
 
+-- whether a picture may be so wide or high
 abbrev pub is_side : ℕ → Bool
 is_side n = nat_lt 0 n && nat_le n max_side
 
@@ -76,6 +79,7 @@ track_within track encoded =
     Err (faults.Limit limits.Height)) else
     Err (faults.Limit limits.Width)))
 
+-- the track of an entry with its record
 abbrev pub track_with : List ℕ → Element → Option Place → Result Track ClipFault
 track_with bytes entry None = Err faults.Codec
 track_with bytes entry (Some private) =
@@ -100,6 +104,7 @@ track_in bytes (Some tracks) =
     let entries = elements_in bytes tracks in
     track_among bytes (first_where (is_ffv1 bytes) entries) (first_where (is_video bytes) entries)
 
+-- the track of a Segment that is read
 unfoldable pub track_of : List ℕ → Option Element → Result Track ClipFault
 track_of bytes None = Err faults.NoTrack
 track_of bytes (Some segment) = track_in bytes (first TRACKS (elements_in bytes segment))

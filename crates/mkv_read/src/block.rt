@@ -1,7 +1,7 @@
 ghost use Rattle.std.specs.Prelude.{◌≡◌, ◌^◌, ◌<◌, ◌+◌, ◌≤◌, length, ℕ, Ok, Some, None, OnOk, IfSome};
-ghost use Rattle.mkv_read.specs.Plain.{LiesBefore, content_of, signed_plus_32768};
-ghost use Rattle.mkv_read.specs.Elements.{LiesWithin};
-ghost use Rattle.mkv_read.specs.Faults.{head_at};
+ghost use Rattle.mkv_read.specs.Plain.{LiesBefore};
+ghost use Rattle.mkv_read.specs.Elements.{content_of, LiesWithin};
+ghost use Rattle.mkv_read.specs.Faults.{signed_plus_32768, head_at};
 ghost use Rattle.mkv_read.specs.Blocks.{block_of, block_fault};
 ghost use Rattle.mkv_read.specs.Taking.{Gives, Lie, taken_of, nothing_taken, counted, kept, take, take_all};
 

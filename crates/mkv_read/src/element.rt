@@ -1,8 +1,7 @@
 ghost use Rattle.std.specs.Prelude.{◌≡◌, ◌<◌, ◌≤◌, ◌==◌, length, IfOk, IfSome};
 ghost use Rattle.std.specs.List.{position_or_len};
 ghost use Rattle.ebml_core.specs.Walking.{LiesAt};
-ghost use Rattle.mkv_read.specs.Plain.{content_of};
-ghost use Rattle.mkv_read.specs.Elements.{LiesWithin, ended, next_at, elements, first, number_of};
+ghost use Rattle.mkv_read.specs.Elements.{content_of, LiesWithin, ended, next_at, elements, first, number_of};
 ghost use Rattle.mkv_read.specs.Tracks.{is_text};
 
 use ebml_core::{EbmlFault, Element, Walker, unsigned};

@@ -6,14 +6,14 @@ mod clip;
 mod element;
 mod fault;
 mod file;
-mod plain;
+mod laws;
 mod track;
 mod visit;
 
 pub use clip::{ClipIndex, MAX_FRAMES, MAX_PRIVATE, MAX_SIDE, Place, Places};
 pub use fault::{ClipFault, Which};
 pub use file::read_clip;
-pub use plain::{PlainFault, one_clip, read_plain_clip};
+pub use laws::{one_clip, plain_is_whole};
 
 #[cfg(test)]
 mod tests;

@@ -1,5 +1,5 @@
 use Rattle.std.proofs.Common.{◌≡◌, Some, None, sym, ap, ◌∙◌}
-use Rattle.mkv_read.specs.Plain.{content_of}
+use Rattle.mkv_read.specs.Elements.{content_of}
 use Rattle.mkv_read.specs.Faults.{head_at}
 use Rattle.mkv_read.proofs.Taken.{no_head, no_track, other_track, this_track, packet-lies}
 use Rattle.mkv_read.proofs.block.take_block.Goals as goal

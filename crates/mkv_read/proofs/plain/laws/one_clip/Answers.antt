@@ -1,5 +1,0 @@
-use Rattle.mkv_read.proofs.Files.{same_clips}
-use Rattle.mkv_read.proofs.plain.laws.one_clip.Goals as goal
-
-pub returns : goal.returns
-returns c = λ bytes a b ha hb. same_clips bytes a b ha hb
