@@ -9,7 +9,7 @@ use Rattle.ebml_core.specs.Walking.{Walk, whole}
 use Rattle.mkv_elements.specs.declared.table.Kind.{Kind}
 use Rattle.mkv_elements.specs.declared.table.Kind.TheVariants as kinds
 use Rattle.mkv_elements.specs.Table.{kind_in}
-use Rattle.mkv_read.specs.Plain.{text_of}
+use Rattle.mkv_read.specs.Elements.{text_of}
 use Rattle.mkv_read.specs.Elements.{first_where, first, number_of}
 use Rattle.mkv_read.specs.Tracks.{is_text}
 use Rattle.mkv_write.proofs.Standing.{Stands, Stands-front, Stands-back, content_end, content_of-spelled}

@@ -14,7 +14,7 @@ use Rattle.mkv_elements.specs.declared.table.Kind.TheVariants as kinds
 use Rattle.mkv_elements.specs.Table.{kind_in}
 use Rattle.mkv_read.specs.declared.block.Head.{Head}
 use Rattle.mkv_read.specs.declared.block.Block.{Block}
-use Rattle.mkv_read.specs.Plain.{content_of}
+use Rattle.mkv_read.specs.Elements.{content_of}
 use Rattle.mkv_read.specs.Elements.{elements_in, first, number_of}
 use Rattle.mkv_read.specs.Faults.{head_at, of_size}
 use Rattle.mkv_read.specs.Blocks.{time_in}

@@ -8,7 +8,7 @@ use Rattle.mkv_elements.specs.declared.table.Kind.TheVariants as kinds
 use Rattle.mkv_elements.specs.Table.{kind_in}
 use Rattle.mkv_read.specs.declared.block.Head.{Head}
 use Rattle.mkv_read.specs.declared.block.Block.{Block}
-use Rattle.mkv_read.specs.Plain.{content_of}
+use Rattle.mkv_read.specs.Elements.{content_of}
 use Rattle.mkv_read.specs.Elements.{elements_in}
 use Rattle.mkv_read.specs.Faults.{head_at, may_be_unknown, first_fault, fault_in, else_place, element_fault}
 use Rattle.mkv_read.specs.Blocks.{each_block, blocks_in, element_blocks, time_in}

@@ -9,7 +9,7 @@ use Rattle.ebml_core.specs.Reading.{element_at}
 use Rattle.ebml_core.specs.Walking.{ends, gives, onward, whole}
 use Rattle.ebml_core.proofs.Pieces.{spelling-some}
 use Rattle.ebml_core.proofs.Headers.{element_at-again}
-use Rattle.mkv_read.specs.Plain.{content_of}
+use Rattle.mkv_read.specs.Elements.{content_of}
 use Rattle.mkv_read.specs.Elements.{ended, ended_in, next_at, elements_upto, elements, elements_in}
 
 -- ---- texts at places
