@@ -27,7 +27,7 @@ next_none : (bytes : List ℕ) (place end : ℕ) → between bytes place end ≡
 unfolding next_at element_at
 next_none bytes place end empty = ap (λ (text : List ℕ). ended_in bytes (element_at place text)) empty
 
-behind_piece : (bytes : List ℕ) (place end n : ℕ) → n ≤ end - place → between bytes (place + n) end ≡ drop n (between bytes place end)
+pub behind_piece : (bytes : List ℕ) (place end n : ℕ) → n ≤ end - place → between bytes (place + n) end ≡ drop n (between bytes place end)
 behind_piece bytes place end n few =
     let parts : end - place ≡ n + (end - (place + n)) = omega arith in
     sym (ap (λ (m : ℕ). drop n (take m (drop place bytes))) parts ∙ drop-take n (end - (place + n)) (drop place bytes) ∙ ap (take (end - (place + n))) (drop-drop n place bytes ∙ ap (λ (m : ℕ). drop m bytes) (omega arith)))
