@@ -8,7 +8,7 @@ from pathlib import Path
 from typing import List, NamedTuple, Optional
 
 HERE = Path(__file__).resolve().parent
-WORK = HERE / "work"
+WORK = HERE / "out"
 GNU_TIME = Path("/usr/bin/time")
 sys.path.insert(0, str(HERE.parent / "interop"))
 

@@ -1,4 +1,5 @@
 pub mod Transition
+pub mod Usual
 pub mod Reading
 pub mod Writing
 pub mod Symbol

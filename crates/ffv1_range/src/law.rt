@@ -1,5 +1,14 @@
 //! The laws of the range coder, about its definitions alone.
+ghost use Rattle.std.specs.Prelude.{◌≡◌};
+ghost use Rattle.ffv1_range.specs.Usual.{default_state_transition};
 ghost use Rattle.ffv1_range.specs.Law.{ReadsOpenPart, ReadsClosedParts, ReadsSymbols, CodesInTurn, NoPrefix};
+
+use crate::transition::USUAL;
+
+/// The usual table is the one of the standard.
+pub fn usual_is_default()
+    ensures { USUAL ≡ default_state_transition }
+{}
 
 /// Without the closing bit, reading what was written gives the bits back.
 pub fn reads_open_part()

@@ -11,7 +11,9 @@ mod states;
 mod transition;
 mod writer;
 
-pub use law::{codes_in_turn, no_prefix, reads_closed_part, reads_open_part, reads_symbols};
+pub use law::{
+    codes_in_turn, no_prefix, reads_closed_part, reads_open_part, reads_symbols, usual_is_default,
+};
 pub use reader::{RangeReader, TooLong};
 pub use states::States;
 pub use transition::{Transition, USUAL};

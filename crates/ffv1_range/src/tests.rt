@@ -1,6 +1,7 @@
 //! The range coder on worked pieces.
 
-ghost use Rattle.std.specs.Prelude.{◌≤◌};
+ghost use Rattle.std.specs.Prelude.{◌≡◌, ◌≤◌, [], ◌∷◌, true, false, pos, negsuc};
+ghost use Rattle.ffv1_range.specs.Symbol.{spelling};
 
 use super::{RangeReader, RangeWriter, States, Transition};
 use std::alloc::{AllocError, Global};
@@ -100,6 +101,73 @@ fn reads_symbols_back(rt: HostRuntime) -> Result<(), Fail> {
         4_294_967_295,
     ] {
         assert_eq!(rt; read_back(rt.alloc(), &table, value)?, Some(value));
+    }
+    Ok(())
+}
+
+// The spellings of two values, by the definition: places in the set, and bits.
+fn worked_spellings()
+    ensures minus_five { spelling (negsuc 4) true ≡ (0, false) ∷ (1, true) ∷ (2, true) ∷ (3, false) ∷ (23, false) ∷ (22, true) ∷ (13, true) ∷ [] }
+    ensures zero { spelling (pos 0) true ≡ (0, true) ∷ [] }
+{}
+
+const MINUS_FIVE: [(usize, bool); 7] = [
+    (0, false),
+    (1, true),
+    (2, true),
+    (3, false),
+    (23, false),
+    (22, true),
+    (13, true),
+];
+
+const ZERO: [(usize, bool); 1] = [(0, true)];
+
+// A fresh set after these bits, of which no two have one place: 134 follows 128 after a bit 1, and 122 after a bit 0.
+fn moved(spelling: &[(usize, bool)]) -> [u8; 32] {
+    let mut states = [128; 32];
+    for (place, bit) in spelling {
+        if let Some(state) = states.get_mut(*place) {
+            *state = if *bit { 134 } else { 122 };
+        }
+    }
+    states
+}
+
+// These bits, each written with a fresh state.
+fn written_bits(
+    alloc: Global,
+    table: &Transition,
+    spelling: &[(usize, bool)],
+) -> Result<Vec<u8>, AllocError> {
+    let mut writer = RangeWriter::start(alloc, table);
+    for (_, bit) in spelling {
+        let mut state = 128;
+        writer.bit(&mut state, *bit)?;
+    }
+    writer.finish(false)
+}
+
+#[test]
+fn spells_worked_values(rt: HostRuntime) -> Result<(), Fail> {
+    worked_spellings();
+    let table = Transition::usual();
+    for (value, spelling) in [(-5, MINUS_FIVE.as_slice()), (0, ZERO.as_slice())] {
+        let mut writer = RangeWriter::start(rt.alloc(), &table);
+        let mut set = States::fresh();
+        writer.symbol(&mut set, value, true)?;
+        assert_eq!(rt; set.states, moved(spelling), "places of {value}");
+        let bytes = writer.finish(false)?;
+        let spelled = written_bits(rt.alloc(), &table, spelling)?;
+        assert_eq!(rt; bytes.as_slice(), spelled.as_slice(), "bits of {value}");
+        let mut reader = RangeReader::over(spelled.as_slice(), &table);
+        let mut set = States::fresh();
+        assert_eq!(rt; reader.symbol(&mut set, true).ok(), Some(value));
+        assert_eq!(rt;
+            set.states,
+            moved(spelling),
+            "places that {value} is read at"
+        );
     }
     Ok(())
 }

@@ -1,15 +1,11 @@
 -- Fields that were written are read again, one after the other.
-use Rattle.std.proofs.Common.{◌≡◌, ◌≢◌, ℕ, zero, suc, ◌-◌, ◌+◌, ◌*◌, ◌^◌, ◌≤◌, ◌<◌, Bool, true, false, cond, ltb, leb, eqb, ◌&&◌, ℤ, pos, ◌+ℤ◌, neg_ℤ, nat_abs, List, [], ◌∷◌, ◌++◌, length, get_or, map, drop, sum, Option, Some, None, Result, Ok, Err, refl, sym, ap, subst, ◌∙◌, append_assoc, arith}
-use Rattle.std.specs.Prelude.{int_le}
-use Rattle.std.specs.List.{AllByRecursion}
-use Rattle.std.proofs.lemmas.Bool.{lt-ltb, le-leb, ne_eqb}
-use Rattle.std.proofs.lemmas.List.{append-nil}
+use Rattle.std.proofs.Common.{◌≡◌, ℕ, ◌^◌, ◌<◌, Bool, true, false, cond, ltb, eqb, ℤ, pos, nat_abs, List, [], ◌∷◌, ◌++◌, Some, Result, Ok, refl, sym, ap, subst, ◌∙◌, append_assoc}
 use Rattle.ffv1_range.specs.declared.transition.TheConstants.{USUAL}
 use Rattle.ffv1_range.specs.Reading.{Reading, bit_of, after_bit, narrowed, renewed, bits_read, after_bits}
-use Rattle.ffv1_range.specs.Symbol.{Source, source, Reads, spelling, symbol_at, bit_at_place, after_place, with_states, set_after, is_negative}
-use Rattle.ffv1_range.specs.Law.{states_of, bits_of, IsSpelled, CodesInTurn, ReadsSymbols}
+use Rattle.ffv1_range.specs.Symbol.{Source, source, Reads, spelling, symbol_at, bit_at_place, after_place, with_states, set_after}
+use Rattle.ffv1_range.specs.Law.{states_of, bits_of, CodesInTurn, ReadsSymbols}
 use Rattle.ffv1_record.specs.declared.fault.RecordFault.{RecordFault}
-use Rattle.ffv1_record.specs.Reading.{◌>>=◌, value_of, signed_at, number_at, only_at}
+use Rattle.ffv1_record.specs.Reading.{signed_at, number_at, only_at}
 use Rattle.ffv1_record.specs.Spelling.{number, flag}
 use Rattle.ffv1_record.proofs.Sinks.{with_states-append, set_after-append}
 

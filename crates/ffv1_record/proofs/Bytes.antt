@@ -1,5 +1,5 @@
 -- The bytes of a record, as a writer of its fields gives them.
-use Rattle.std.proofs.Common.{◌≡◌, ℕ, ◌+◌, Bool, List, [], ◌∷◌, ◌++◌, length, map, ◌<◌, ◌^◌, refl, sym, ap, subst, ◌∙◌}
+use Rattle.std.proofs.Common.{◌≡◌, ℕ, Bool, List, [], ◌∷◌, ◌++◌, length, map, ◌<◌, ◌^◌, refl, sym, ap, subst, ◌∙◌}
 use Rattle.std.proofs.lemmas.List.{length-map}
 use Rattle.pic_planes.specs.declared.shape.Chroma.{Chroma}
 use Rattle.pic_planes.specs.Shape.{AreShifts}
@@ -12,7 +12,7 @@ use Rattle.ffv1_record.specs.Tables.{set_of, AreSets}
 use Rattle.ffv1_record.specs.Parameters.{Parameters, parameters_of, runs_of, IsGrid, IsTableFor, IsRecord}
 use Rattle.ffv1_record.specs.Spelling.{runs, coding, planes, grid, ending, before_tables, after_tables, coded_tables, coded_sets, coded, with_parity, record_bytes}
 use Rattle.ffv1_record.specs.Sink.{Sink, sink, wrote, wrote_table, wrote_tables, wrote_sets}
-use Rattle.ffv1_record.proofs.Sinks.{put_all-table, put_all-append, appended, in_turn_3}
+use Rattle.ffv1_record.proofs.Sinks.{put_all-table, put_all-append, in_turn_3}
 
 wrote_table-writing : (w : Sink) (table : List ℕ) → w.writing.table ≡ USUAL → wrote_table w table ≡ sink (put_all w.writing (with_states USUAL fresh (runs table))) w.set
 unfolding wrote_table wrote

@@ -1,8 +1,7 @@
 -- The tables of the default record.
-use Rattle.std.proofs.Common.{◌≡◌, ℕ, ◌<◌, ◌≤◌, List, [], ◌∷◌, All, refl, arith}
-use Rattle.std.specs.List.{AllByRecursion}
+use Rattle.std.proofs.Common.{◌<◌, [], ◌∷◌, refl, arith}
 use Rattle.std.proofs.lemmas.List.Elements.{All-from_recursion}
-use Rattle.ffv1_record.specs.Tables.{AreRuns, AreSetRuns, AreSets, ScalesFit}
+use Rattle.ffv1_record.specs.Tables.{AreRuns, AreSetRuns, AreSets}
 use Rattle.ffv1_record.specs.Default.{fine_runs, one_run, default_runs}
 
 fine-sound : AreRuns fine_runs

@@ -1,5 +1,5 @@
 -- The state transition table of a record is read again.
-use Rattle.std.proofs.Common.{◌≡◌, ◌≢◌, ℕ, zero, suc, ◌-◌, ◌+◌, ◌*◌, ◌^◌, ◌≤◌, ◌<◌, Bool, true, false, cond, ltb, leb, eqb, ◌&&◌, ℤ, pos, negsuc, ◌+ℤ◌, neg_ℤ, nat_abs, List, [], ◌∷◌, ◌++◌, length, get_or, drop, All, Result, Ok, Err, refl, sym, ap, subst, ◌∙◌, append_assoc, arith, inl, inr}
+use Rattle.std.proofs.Common.{◌≡◌, ℕ, suc, ◌^◌, ◌<◌, Bool, true, false, cond, eqb, ◌&&◌, ℤ, pos, ◌+ℤ◌, neg_ℤ, nat_abs, List, [], ◌∷◌, ◌++◌, length, drop, refl, sym, ap, subst, ◌∙◌, append_assoc, arith, inl, inr}
 use Rattle.std.specs.Prelude.{int_le, slice_index}
 use Rattle.std.specs.List.{AllByRecursion}
 use Rattle.std.proofs.lemmas.Int.{ints}
@@ -9,7 +9,7 @@ use Rattle.ffv1_range.specs.declared.transition.TheConstants.{USUAL}
 use Rattle.ffv1_range.specs.Transition.{IsTransition}
 use Rattle.ffv1_range.specs.Symbol.{Source, spelling}
 use Rattle.ffv1_record.specs.Parameters.{IsTableFor}
-use Rattle.ffv1_record.specs.Reading.{◌>>=◌, signed_at, entry_at, entries_at, transition_at}
+use Rattle.ffv1_record.specs.Reading.{entry_at, entries_at, transition_at}
 use Rattle.ffv1_record.specs.Spelling.{deltas, transition}
 use Rattle.ffv1_record.proofs.Again.{Laws, Rest, Ahead, Again, signed_again}
 

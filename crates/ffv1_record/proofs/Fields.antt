@@ -1,7 +1,7 @@
 -- The fields of a record are read again.
-use Rattle.std.proofs.Common.{◌≡◌, ◌≢◌, ℕ, zero, suc, ◌-◌, ◌+◌, ◌*◌, ◌^◌, ◌≤◌, ◌<◌, Bool, true, false, cond, ltb, leb, eqb, ◌&&◌, ◌||◌, ℤ, pos, ◌+ℤ◌, neg_ℤ, nat_abs, List, [], ◌∷◌, ◌++◌, length, get_or, map, drop, sum, Result, Ok, Err, refl, sym, ap, subst, ◌∙◌, append_assoc, arith}
+use Rattle.std.proofs.Common.{◌≡◌, ℕ, zero, suc, ◌-◌, ◌+◌, ◌*◌, ◌^◌, ◌≤◌, ◌<◌, Bool, true, false, cond, ltb, leb, eqb, List, [], ◌∷◌, ◌++◌, length, sum, Ok, refl, sym, ap, subst, ◌∙◌, append_assoc, arith}
 use Rattle.std.specs.List.{AllByRecursion}
-use Rattle.std.proofs.lemmas.Bool.{lt-ltb, le-leb, ne_eqb, and_from}
+use Rattle.std.proofs.lemmas.Bool.{lt-ltb, le-leb, ne_eqb}
 use Rattle.std.proofs.lemmas.List.{append-nil}
 use Rattle.std.proofs.lemmas.List.Sums.{sum_by-cons}
 use Rattle.std.proofs.lemmas.List.Elements.{recursion_from_All}
@@ -9,16 +9,14 @@ use Rattle.pic_planes.specs.declared.shape.Chroma.{Chroma}
 use Rattle.pic_planes.specs.declared.shape.Chroma.TheVariants.{Grey, Shifts}
 use Rattle.pic_planes.specs.Shape.{AreShifts}
 use Rattle.ffv1_range.specs.declared.transition.TheConstants.{USUAL}
-use Rattle.ffv1_range.specs.Reading.{Reading, after_bits}
-use Rattle.ffv1_range.specs.Symbol.{Source, source, spelling, bit_at_place, after_place, with_states, set_after}
-use Rattle.ffv1_range.specs.Law.{states_of}
-use Rattle.ffv1_record.specs.declared.fault.RecordFault.{RecordFault}
+use Rattle.ffv1_range.specs.Reading.{Reading}
+use Rattle.ffv1_range.specs.Symbol.{Source, source, after_place, with_states}
 use Rattle.ffv1_record.specs.declared.fault.RecordFault.TheVariants as faults
-use Rattle.ffv1_record.specs.Reading.{◌>>=◌, fresh, signed_at, number_at, only_at, coder_at, bits_at, chroma_of, chroma_at, grid_at, runs_at, table_at, tables_at, sets_at, states_at, ec_at}
-use Rattle.ffv1_record.specs.Tables.{AreRuns, AreSetRuns, AreSets, ScalesFit, scale_after, next_scale}
+use Rattle.ffv1_record.specs.Reading.{fresh, coder_at, bits_at, chroma_of, chroma_at, grid_at, runs_at, table_at, tables_at, sets_at, states_at, ec_at}
+use Rattle.ffv1_record.specs.Tables.{AreRuns, AreSetRuns, ScalesFit, next_scale}
 use Rattle.ffv1_record.specs.Parameters.{IsGrid}
-use Rattle.ffv1_record.specs.Spelling.{number, flag, chroma, coding, planes, grid, ending, flags, runs, transition, coded_tables, coded_sets}
-use Rattle.ffv1_record.proofs.Again.{Laws, Rest, Stands, Stands-append, Ahead, past, Again, number_again, only_again, flag_again, after_bits-table}
+use Rattle.ffv1_record.specs.Spelling.{number, flag, chroma, coding, planes, grid, flags, runs, transition, coded_tables, coded_sets}
+use Rattle.ffv1_record.proofs.Again.{Laws, Rest, Stands, Ahead, Again, number_again, only_again, flag_again}
 
 moved_on : (s : Source) (a b : List (ℕ × Bool)) (rest : Rest) → a ≡ b → Ahead s a rest → Ahead s b rest
 moved_on s a b rest same ahead = subst (λ (bits : List (ℕ × Bool)). Ahead s bits rest) same ahead

@@ -1,5 +1,5 @@
 -- What is written of a record is read again as the record.
-use Rattle.std.proofs.Common.{◌≡◌, ◌≢◌, ℕ, zero, suc, ◌-◌, ◌+◌, ◌*◌, ◌/◌, ◌^◌, ◌≤◌, ◌<◌, Bool, true, false, cond, ltb, leb, eqb, ◌&&◌, List, [], ◌∷◌, ◌++◌, length, map, take, drop, Result, Ok, Err, refl, sym, ap, subst, ◌∙◌, append_assoc, arith, length-append}
+use Rattle.std.proofs.Common.{◌≡◌, ℕ, ◌-◌, ◌+◌, ◌/◌, ◌^◌, ◌≤◌, ◌<◌, Bool, true, false, cond, ltb, leb, List, [], ◌∷◌, ◌++◌, length, map, take, drop, Ok, refl, sym, ap, subst, ◌∙◌, append_assoc, arith, length-append}
 use Rattle.byteorder.specs.Numbers.{length-bytes_high_first}
 use Rattle.std.proofs.lemmas.Bool.{le-leb, le-ltb, eq-eqb}
 use Rattle.std.proofs.lemmas.List.{append-nil, take_at, drop_at, length-map}
@@ -14,8 +14,7 @@ use Rattle.ffv1_range.specs.Reading.{Reading, opened}
 use Rattle.ffv1_range.specs.Writing.{Writing, started, chosen, shifted, put, put_all, part}
 use Rattle.ffv1_range.specs.Symbol.{Source, source, spelling, magnitude_bits, ones, low_bits, with_states, set_after}
 use Rattle.ffv1_range.specs.Law.{written, ReadsOpenPart}
-use Rattle.ffv1_record.specs.declared.fault.RecordFault.{RecordFault}
-use Rattle.ffv1_record.specs.Reading.{◌>>=◌, fresh, fields_at, all_sets_at, parameters, content, has_parity}
+use Rattle.ffv1_record.specs.Reading.{fresh, fields_at, all_sets_at, parameters, has_parity}
 use Rattle.ffv1_record.specs.Tables.{AreSetRuns, AreSets, set_of}
 use Rattle.ffv1_record.specs.Parameters.{Parameters, parameters_of, runs_of, IsGrid, IsTableFor, IsRecord}
 use Rattle.ffv1_record.specs.Spelling.{number, coding, planes, grid, ending, flags, transition, before_tables, after_tables, coded_sets, coded, with_parity, record_bytes}

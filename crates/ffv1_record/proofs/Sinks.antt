@@ -1,12 +1,12 @@
 -- What a writer of fields stands at, after fields in turn.
-use Rattle.std.proofs.Common.{◌≡◌, ℕ, zero, suc, pos, ◌+ℤ◌, neg_ℤ, ◌-◌, ◌+◌, ◌*◌, ◌≤◌, ◌<◌, Bool, true, false, cond, ltb, List, [], ◌∷◌, ◌++◌, length, get_or, map, drop, refl, sym, ap, subst, ◌∙◌, append_assoc, add-one, arith, drop-cons}
-use Rattle.std.proofs.lemmas.List.{append-nil, drop_all}
+use Rattle.std.proofs.Common.{◌≡◌, ℕ, suc, pos, ◌+ℤ◌, neg_ℤ, ◌-◌, ◌+◌, ◌*◌, ◌≤◌, ◌<◌, Bool, true, false, cond, ltb, List, [], ◌∷◌, ◌++◌, length, get_or, map, drop, refl, sym, ap, ◌∙◌, add-one, arith, drop-cons}
+use Rattle.std.proofs.lemmas.List.{drop_all}
 use Rattle.ffv1_range.specs.Transition.{moved}
 use Rattle.ffv1_range.specs.Writing.{Writing, put, put_all, shifted, chosen}
 use Rattle.ffv1_range.specs.Symbol.{with_states, set_after, spelling}
 use Rattle.ffv1_record.specs.declared.tables.Runs.{Runs}
 use Rattle.ffv1_record.specs.Spelling.{number, flag, deltas, runs, flags}
-use Rattle.ffv1_record.specs.Sink.{Sink, sink, wrote, wrote_table, wrote_tables, wrote_sets}
+use Rattle.ffv1_record.specs.Sink.{Sink, wrote, wrote_table, wrote_tables, wrote_sets}
 
 put-table : (w : Writing) (state : ℕ) (bit : Bool) → (put w state bit).table ≡ w.table
 unfolding put shifted chosen

@@ -1,5 +1,5 @@
--- What the bytes of a configuration record say: its fields, or the first fault in their order. RFC 9043 sections 4.2 and 4.3.
-use Rattle.std.specs.Prelude.{◌≡◌, ◌≢◌, ℕ, zero, suc, ◌+◌, ◌-◌, ◌*◌, Bool, true, false, not, ◌&&◌, ◌||◌, if◌then◌else◌, nat_lt, nat_le, ◌==◌, ℤ, pos, ◌+ℤ◌, nat_abs, int_le, List, [], ◌∷◌, length, map, take, drop, replicate, Option, Some, None, Result, Ok, Err}
+-- What the bytes of a configuration record say: its fields, or the first fault in their order. RFC 9043 sections 4.1 to 4.3.
+use Rattle.std.specs.Prelude.{◌≡◌, ◌≢◌, ℕ, zero, suc, ◌+◌, ◌-◌, ◌*◌, Bool, true, false, ◌&&◌, ◌||◌, if◌then◌else◌, nat_lt, nat_le, ◌==◌, ℤ, pos, ◌+ℤ◌, nat_abs, int_le, List, [], ◌∷◌, length, take, drop, replicate, Option, Some, None, Result, Ok, Err}
 use Rattle.byteorder.specs.Endian.{big_number}
 use Rattle.tl_base.specs.Parity.{parity}
 use Rattle.pic_planes.specs.declared.shape.Chroma.{Chroma}

@@ -1,6 +1,5 @@
 -- How a configuration record is written: its fields as places and bits, coded by the usual table. RFC 9043 sections 3.8 and 4.2.
-use Rattle.std.specs.Prelude.{ℕ, zero, suc, ◌+◌, ◌-◌, Bool, true, false, if◌then◌else◌, ◌==◌, ℤ, pos, ◌+ℤ◌, neg_ℤ, List, [], ◌∷◌, ◌++◌, length, map, drop, replicate}
-use Rattle.std.specs.List.{flat_map}
+use Rattle.std.specs.Prelude.{ℕ, zero, suc, ◌-◌, Bool, true, false, if◌then◌else◌, ◌==◌, pos, ◌+ℤ◌, neg_ℤ, List, [], ◌∷◌, ◌++◌, length, drop}
 use Rattle.byteorder.specs.Endian.{big_bytes}
 use Rattle.tl_base.specs.Parity.{parity}
 use Rattle.pic_planes.specs.declared.shape.Chroma.{Chroma}

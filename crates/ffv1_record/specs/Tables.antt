@@ -1,5 +1,5 @@
--- Quantization tables, from the lengths of their runs. RFC 9043 sections 4.9 and 4.10.
-use Rattle.std.specs.Prelude.{◌≡◌, ℕ, zero, suc, ◌+◌, ◌-◌, ◌*◌, ◌/◌, ◌<◌, ◌≤◌, List, [], ◌∷◌, ◌++◌, length, map, reverse, drop, replicate, slice_index, sum, All, ℤ, pos, neg_ℤ}
+-- Quantization tables, from the lengths of their runs. RFC 9043 sections 3.4 and 4.1.
+use Rattle.std.specs.Prelude.{◌≡◌, ℕ, ◌+◌, ◌-◌, ◌*◌, ◌/◌, ◌<◌, ◌≤◌, List, [], ◌∷◌, ◌++◌, length, map, reverse, drop, replicate, slice_index, sum, All, ℤ, pos, neg_ℤ}
 
 -- The first 128 entries of a table. Run v, from 0, gives the scale times v to as many entries as its length.
 abbrev pub first_half : ℕ → ℕ → List ℕ → List ℕ

@@ -45,7 +45,10 @@ pub(crate) fn default_set(alloc: Global) -> Result<TableSet, AllocError>
     tables.push(runs(alloc, &[1, 2, 4, 16, 105])?)?;
     tables.push(runs(alloc, &[128])?)?;
     tables.push(runs(alloc, &[128])?)?;
-    Ok(TableSet { tables })
+    Ok(TableSet {
+        tables,
+        context_count: 365,
+    })
 }
 
 fn runs(alloc: Global, lengths: &[u8]) -> Result<Runs, AllocError>

@@ -1,4 +1,4 @@
-//! The configuration record of FFV1 version 3, both ways: RFC 9043 sections 4.2 and 4.3.
+//! The configuration record of FFV1 version 3, both ways: RFC 9043 sections 4.1 to 4.3.
 //!
 //! A record is read from the private data of a clip and says how the frames of the clip are coded: the coder and its state
 //! transition table, the chroma planes, the grid of slices, and the quantization tables.

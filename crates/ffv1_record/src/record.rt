@@ -1,9 +1,9 @@
 //! The configuration record.
-ghost use Rattle.std.specs.Prelude.{◌≡◌, ◌≤◌, ◌<◌, ◌+◌, ◌-◌, ◌/◌, ◌^◌, ◌↔◌, IsSome, IfSome, IfOk, IsTrue, OnOk, Ok, true, length};
+ghost use Rattle.std.specs.Prelude.{◌≡◌, ◌≤◌, ◌<◌, ◌+◌, ◌-◌, ◌/◌, ◌^◌, ◌↔◌, IsSome, IfSome, IfOk, IsTrue, OnOk, Ok, true, length, map};
 ghost use Rattle.ffv1_record.specs.Reading.{Gives, fields_at, parameters};
 ghost use Rattle.pic_planes.specs.Shape.{AreShifts, IsShape, IsSize, layout};
 ghost use Rattle.ffv1_record.specs.Parameters.{IsGrid, parameters_of};
-ghost use Rattle.ffv1_record.specs.Tables.{AreSets};
+ghost use Rattle.ffv1_record.specs.Tables.{AreSets, set_of};
 ghost use Rattle.ffv1_record.specs.Default.{coder_type_of};
 ghost use Rattle.ffv1_record.specs.Suits.{Suits, ReachesEnd, ReachesEnds};
 ghost use Rattle.ffv1_record.specs.Spelling.{record_bytes, with_parity};
@@ -185,6 +185,14 @@ impl Record {
         ensures sound { IsGrid self.now.columns self.now.rows }
     {
         self.rows
+    }
+
+    /// The sets of quantization tables.
+    pub fn table_sets(&self) -> &[TableSet]
+        ensures sets { map set_of result.now ≡ self.now.sets }
+        ensures sound { AreSets result.now }
+    {
+        self.sets.as_slice()
     }
 
     /// Whether each slice ends with an error status and its parity.

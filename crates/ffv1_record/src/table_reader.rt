@@ -101,7 +101,10 @@ impl<'a> FieldReader<'a> {
             tables.push(runs)?;
             scale = next;
         }
-        Ok(TableSet { tables })
+        Ok(TableSet {
+            tables,
+            context_count: scale.div_ceil(2),
+        })
     }
 
     // The runs of a table, with a fresh set of their own, and the scale after it.

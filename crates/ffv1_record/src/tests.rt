@@ -57,9 +57,21 @@ fn records_of_ffmpeg(rt: HostRuntime) -> Result<(), Fail> {
         assert_eq!(rt; record.chroma(), chroma);
         assert_eq!(rt; (record.columns(), record.rows()), (columns, rows));
         assert_eq!(rt; record.ec(), ec);
+        assert!(rt; has_contexts(&record, &[666, 7_563]));
         assert_eq!(rt; record.write(rt.alloc())?.as_slice(), bytes);
     }
     Ok(())
+}
+
+// Whether a record has a table set for each of these counts of contexts.
+fn has_contexts(record: &Record, counts: &[u32]) -> bool {
+    let sets = record.table_sets();
+    for (set, count) in sets.iter().zip(counts) {
+        if set.context_count() != *count {
+            return false;
+        }
+    }
+    sets.len() == counts.len()
 }
 
 #[test]
@@ -105,7 +117,7 @@ fn default_is_read_back(rt: HostRuntime) -> Result<(), Fail> {
     let grey = Shape::of(1, 1, Chroma::Grey).ok_or("a shape")?;
     let record = default_record(rt.alloc(), grey, Coder::Rice, 1, 1)?;
     is_read_back(&rt, rt.alloc(), &record)?;
-    assert!(rt; record.suits(grey) && record.ec());
+    assert!(rt; record.suits(grey) && record.ec() && has_contexts(&record, &[365]));
     let yuv420 = Shape::of(1, 1, Chroma::Shifts { h: 1, v: 1 }).ok_or("a shape")?;
     let record = default_record(rt.alloc(), yuv420, Coder::Range, 1, 1)?.with_ec(false);
     is_read_back(&rt, rt.alloc(), &record)?;
@@ -119,6 +131,7 @@ fn is_read_back(rt: &impl Abort, alloc: Global, record: &Record) -> Result<(), F
     assert_eq!(rt; again.coder(), record.coder());
     assert_eq!(rt; again.chroma(), record.chroma());
     assert_eq!(rt; again.ec(), record.ec());
+    assert!(rt; has_contexts(&again, &[365]));
     assert_eq!(rt; again.write(alloc)?.as_slice(), bytes.as_slice());
     Ok(())
 }

@@ -28,7 +28,7 @@ length-info : length info ≡ 44
 unfolding info element number size
 length-info = refl
 
-length-video : (width height : ℕ) → length (video width height) ≡ 10
+pub length-video : (width height : ℕ) → length (video width height) ≡ 10
 unfolding video element number size
 length-video width height = refl
 
@@ -36,7 +36,7 @@ length-front : length (number 1 TRACK_NUMBER 1 1 ++ number 2 TRACK_UID 1 1 ++ nu
 unfolding element number size
 length-front = refl
 
-length-track : (private : List ℕ) (width height : ℕ) → length (track private width height) ≡ length private + 37
+pub length-track : (private : List ℕ) (width height : ℕ) → length (track private width height) ≡ length private + 37
 unfolding track
 length-track private width height =
     let front : List ℕ = number 1 TRACK_NUMBER 1 1 ++ number 2 TRACK_UID 1 1 ++ number 1 TRACK_TYPE 1 1 ++ number 1 FLAG_LACING 1 0 ++ element 1 CODEC_ID 1 (codes "V_FFV1") in

@@ -1,7 +1,16 @@
+pub mod Back
 pub mod Clusters
 pub mod Files
+pub mod Finding
+pub mod Frames
+pub mod Gathering
 pub mod Kept
 pub mod Lengths
 pub mod Octets
+pub mod Parts
 pub mod Prefix
+pub mod Segment
+pub mod Spelled
+pub mod Standing
 pub mod Times
+pub mod Tracks

@@ -7,11 +7,13 @@ mod element;
 mod fault;
 mod head;
 mod history;
+mod law;
 mod put;
 mod writer;
 
 pub use cluster::CLUSTER_FRAMES;
 pub use fault::WriteFault;
+pub use law::written_is_read_back;
 pub use writer::{MkvWriter, put_is_prefix};
 
 #[cfg(test)]

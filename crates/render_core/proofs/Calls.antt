@@ -5,8 +5,8 @@ use Rattle.tl_model.specs.Media.{Library}
 use Rattle.tl_model.specs.declared.journal.Entry.{Entry}
 use Rattle.render_core.specs.State.{State, start}
 use Rattle.render_core.specs.Step.{Reply, IsLegal, step, reply, state_after, AreLegal}
-use Rattle.render_core.specs.Board.{BoardOf}
-use Rattle.render_core.specs.Calls.{CallOf, entry_of, entered, replies, Runs, Journals}
+use Rattle.render_core.specs.Board.{BoardOf, CallOf}
+use Rattle.render_core.specs.Calls.{entry_of, entered, replies, Runs, Journals}
 use Rattle.render_core.proofs.Grows.{after-append}
 
 -- the same journal of a board of the same library and cache

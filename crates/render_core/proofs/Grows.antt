@@ -164,8 +164,10 @@ pays {M} library old om nm at pass what journal longer limit owing len len' cap 
     let same : IsSame old old = record { library = refl; cache = refl; limit = refl; journal = refl; room = omega arith } in
     let left : cap' - (len' + (owing - 1)) ≡ cap - (len + owing) = omega arith in
     record {
-      added = adds library old old om nm limit journal longer (cap - (len + owing)) (cap' - (len' + (owing - 1))) pass what (step (library om.library) om.cache at pass what om.state) v same stands legal turn is;
-      replied = replies library old old om limit journal (cap - (len + owing)) what (view given) v same stands told;
+      made = (
+        adds library old old om nm limit journal longer (cap - (len + owing)) (cap' - (len' + (owing - 1))) pass what (step (library om.library) om.cache at pass what om.state) v same stands legal turn is,
+        replies library old old om limit journal (cap - (len + owing)) what (view given) v same stands told,
+      );
       spare = left ∙ ap (λ (x : BoardOf M). x.spare) v;
     }
 

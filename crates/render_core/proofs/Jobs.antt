@@ -54,8 +54,8 @@ read_is jobs i x h e = slice_get_read jobs (length jobs) i x refl h e
 abbrev pub open_of : Recipe → Job → Bool
 open_of r job = is_open job && same_recipe r job.recipe
 
-abbrev pub weight : (Job → Bool) → Job → ℕ
-weight p job = cond (p job) 1 0
+abbrev pub weight : {A : Type 0} → (A → Bool) → A → ℕ
+weight p x = cond (p x) 1 0
 
 pub count_map : (p : Job → Bool) (f : Job → Job) → ((job : Job) → weight p (f job) ≤ weight p job) → (jobs : List Job) → count_by p (map f jobs) ≤ count_by p jobs
 count_map p f le [] = omega arith
@@ -77,18 +77,18 @@ count_update p f (job ∷ jobs) (suc i) x e = omega (arith, count_update p f job
 pub count_push : (p : Job → Bool) (jobs : List Job) (x : Job) → count_by p (jobs ++ x ∷ []) ≡ count_by p jobs + weight p x
 count_push p jobs x = sum_by-append (weight p) jobs (x ∷ []) ∙ ap (λ (k : ℕ). count_by p jobs + k) (sum_by-cons (weight p) x [] ∙ let z : weight p x + 0 ≡ weight p x = omega arith in z)
 
-none_by : (p : Job → Bool) (job : Job) (jobs : List Job) (b : Bool) → p job ≡ b → (b || list_any p jobs) ≡ false → (list_any p jobs ≡ false → count_by p jobs ≡ 0) → count_by p (job ∷ jobs) ≡ 0
-none_by p job jobs true h e rest = absurd cc
-none_by p job jobs false h e rest =
-    let w : weight p job ≡ 0 = ap (λ (b : Bool). cond b 1 0) h in
-    omega (arith, rest e, w, sum_by-cons (weight p) job jobs)
+none_by : {A : Type 0} (p : A → Bool) (x : A) (xs : List A) (b : Bool) → p x ≡ b → (b || list_any p xs) ≡ false → (list_any p xs ≡ false → count_by p xs ≡ 0) → count_by p (x ∷ xs) ≡ 0
+none_by p x xs true h e rest = absurd cc
+none_by p x xs false h e rest =
+    let w : weight p x ≡ 0 = ap (λ (b : Bool). cond b 1 0) h in
+    omega (arith, rest e, w, sum_by-cons (weight p) x xs)
 
-pub none_counted : (p : Job → Bool) (jobs : List Job) → list_any p jobs ≡ false → count_by p jobs ≡ 0
+pub none_counted : {A : Type 0} (p : A → Bool) (xs : List A) → list_any p xs ≡ false → count_by p xs ≡ 0
 none_counted p [] e = refl
-none_counted p (job ∷ jobs) e = none_by p job jobs (p job) refl e (none_counted p jobs)
+none_counted p (x ∷ xs) e = none_by p x xs (p x) refl e (none_counted p xs)
 
 -- closing, holding and ending keep at most one open job a recipe
-closed_weight : (r : Recipe) (test : Recipe → Bool) (at : ℕ) (job : Job) → weight (open_of r) (close_if test at job) ≤ weight (open_of r) job
+pub closed_weight : (r : Recipe) (test : Recipe → Bool) (at : ℕ) (job : Job) → weight (open_of r) (close_if test at job) ≤ weight (open_of r) job
 closed_weight r test at job = by_test (is_open job && test job.recipe)
   where
     by_test : (b : Bool) → weight (open_of r) (cond b (record { recipe = job.recipe; holder = job.holder; closed = Some at }) job) ≤ weight (open_of r) job
@@ -107,7 +107,7 @@ one_open-let_go i jobs x e one r = omega (arith, one r, count_update (open_of r)
 pub one_open-ended : (at i : ℕ) (jobs : List Job) (x : Job) → slice_get jobs i ≡ Some x → HasOneOpen jobs → HasOneOpen (update i (ended at) jobs)
 one_open-ended at i jobs x e one r = omega (arith, one r, count_update (open_of r) (ended at) jobs i x e)
 
-abbrev new_job : Recipe → Job
+abbrev pub new_job : Recipe → Job
 new_job r = record { recipe = r; holder = None; closed = None }
 
 push_open : (recipe : Recipe) (jobs : List Job) → has_open recipe jobs ≡ false → HasOneOpen jobs → HasOneOpen (jobs ++ new_job recipe ∷ [])
@@ -161,9 +161,8 @@ first_or_rest r rs job false same e = omega arith
 first_or_rest r rs job true true e =
     let is : job.recipe ≡ r = same_recipe-true job.recipe r e in
     let w : same_recipe r job.recipe ≡ true = ap (same_recipe r) is ∙ same_recipe-same r in
-    let u : cond (same_recipe r job.recipe) 1 0 ≡ 1 = ap (λ (b : Bool). cond b 1 0) w in
-    let base : cond (same_recipe r job.recipe) 1 0 + cond (is_among job.recipe rs) 1 0 ≡ 1 + cond (is_among job.recipe rs) 1 0 = ap (λ (k : ℕ). k + cond (is_among job.recipe rs) 1 0) u in
-    omega (arith, base)
+    let u : cond {A = ℕ} (same_recipe r job.recipe) 1 0 ≡ 1 = ap (λ (b : Bool). cond b 1 0) w in
+    omega (arith, u)
 first_or_rest r rs job true false e = omega arith
 
 nothing : (b : Bool) → cond {A = ℕ} (b && false) 1 0 ≡ 0

@@ -5,3 +5,4 @@ pub mod Grows
 pub mod Claims
 pub mod Calls
 pub mod Renders
+pub mod Orderly

@@ -1,5 +1,5 @@
 -- The board as contracts see it, and what its calls answer.
-use Rattle.std.specs.Prelude.{◌≡◌, ℕ, ◌+◌, ◌<◌, ◌≤◌, ◌^◌, false, List, [], ◌∷◌, ◌++◌, length, None, IsSome, IsTrue, Result, Ok, Err}
+use Rattle.std.specs.Prelude.{◌≡◌, ℕ, ◌+◌, ◌<◌, ◌≤◌, ◌^◌, false, List, [], ◌∷◌, ◌++◌, length, Option, Some, None, IsSome, IsTrue, Result, Ok, Err}
 use Rattle.std.specs.Arc.{arc_value}
 use Rattle.std.specs.List.{position}
 use Rattle.tl_model.specs.Media.{Library}
@@ -34,6 +34,12 @@ pub record BoardOf (M : Type 0) : Type 0 where
   pub limit : ℕ
   pub journal : List Entry
   pub spare : ℕ
+
+-- A call that has an entry, and what it was told.
+pub record CallOf (F : Type 0) : Type 0 where
+  pub pass : ℕ
+  pub act : Act
+  pub told : Reply F
 
 abbrev pub of_edit : {F : Type 0} → EditReply → Reply F
 of_edit reply = Edited reply
@@ -85,28 +91,31 @@ module _ {M F : Type 0} where
     pub journal : new.journal ≡ old.journal ++ record { pass = pass; act = what } ∷ []
     pub legal : IsLegal pass what (state_of library old)
 
+  -- A call adds its entry and is told the machine's reply. One that has no entry leaves the board the same.
+  abbrev pub Makes : (M → Library F) → (old new : BoardOf M) → Option (CallOf F) → Type 0
+  Makes library old new None = IsSame old new
+  Makes library old new (Some call) = Adds library old new call.pass call.act × (call.told ≡ reply (library old.library) call.act (state_of library old))
+
   -- A refusal changes nothing. `JournalFull` comes exactly where the entries don't fit, before any want of memory.
   abbrev pub Refuses : (M → Library F) → (old new : BoardOf M) (need : ℕ) → Full → Type 0
   Refuses library old new need (full.JournalFull len owing) =
-      IsSame old new × (len ≡ length old.journal) × (owing ≡ owed (state_of library old)) × (old.limit < len + owing + need)
-  Refuses library old new need full.NoMemory = IsSame old new × HasRoom library old need
+      Makes library old new None × (len ≡ length old.journal) × (owing ≡ owed (state_of library old)) × (old.limit < len + owing + need)
+  Refuses library old new need full.NoMemory = Makes library old new None × HasRoom library old need
 
   -- A call adds its entry and gives the machine's reply, or is refused.
   abbrev pub Does : {R : Type 0} → (M → Library F) → (old new : BoardOf M) (pass : ℕ) → Act → (R → Reply F) → Result R Full → Type 0
-  Does library old new pass what view (Ok given) = HasRoom library old 1 × Adds library old new pass what × (view given ≡ reply (library old.library) what (state_of library old))
+  Does library old new pass what view (Ok given) = HasRoom library old 1 × Makes library old new (Some (record { pass = pass; act = what; told = view given }))
   Does library old new pass what view (Err why) = Refuses library old new 1 why
 
   -- A call whose entry was owed adds it and gives the machine's reply, out of the room that was kept for it.
   pub record Pays {R : Type 0} (library : M → Library F) (old new : BoardOf M) (pass : ℕ) (what : Act) (view : R → Reply F) (given : R) : Type 0 where
-    pub added : Adds library old new pass what
-    pub replied : view given ≡ reply (library old.library) what (state_of library old)
+    pub made : Makes library old new (Some (record { pass = pass; act = what; told = view given }))
     pub spare : new.spare ≡ old.spare
 
 -- One turn of the machine: its next state and its reply, or want of memory.
-abbrev pub Turns : {M F R : Type 0} → (old new : MachineOf M) → State → Reply F → (R → Reply F) → Result R Full → Type 0
+abbrev pub Turns : {M F R E : Type 0} → (old new : MachineOf M) → State → Reply F → (R → Reply F) → Result R E → Type 0
 Turns old new state told view (Ok given) = (new ≡ in_state state old) × (view given ≡ told)
-Turns old new state told view (Err (full.JournalFull len owing)) = ⊥
-Turns old new state told view (Err full.NoMemory) = new ≡ old
+Turns old new state told view (Err why) = new ≡ old
 
 -- What the board keeps: it stands for the state after its journal, which is legal; what is owed is within the limit and has memory.
 pub record IsBoard {F : Type 0} (lib : Library F) (cache : ℕ) (state : State) (journal : List Entry) (limit owing room : ℕ) : Type 0 where
@@ -126,16 +135,16 @@ module _ {M F : Type 0} where
 
   -- A claim takes the lowest queued job; `Stopped` comes exactly where there is a stop, else `Idle` exactly where no job is queued.
   abbrev pub Claims : (M → Library F) → (old new : BoardOf M) (pass : ℕ) → Result ClaimReply Full → Type 0
-  Claims library old new pass (Ok (claims.Claimed claim)) = HasRoom library old 2 × Adds library old new pass act.Claim × (◌≡◌ {A = Reply F} (Claimed claim.job claim.recipe) (reply (library old.library) act.Claim (state_of library old)))
+  Claims library old new pass (Ok (claims.Claimed claim)) = HasRoom library old 2 × Makes library old new (Some (record { pass = pass; act = act.Claim; told = Claimed claim.job claim.recipe }))
   Claims library old new pass (Ok (claims.Stopped len)) = (new ≡ old) × (len ≡ length old.journal) × IsTrue (state_of library old).is_stopped
   Claims library old new pass (Ok (claims.Idle len)) = (new ≡ old) × (len ≡ length old.journal) × ((state_of library old).is_stopped ≡ false) × (position is_queued (state_of library old).jobs ≡ None)
   Claims library old new pass (Err why) = ((state_of library old).is_stopped ≡ false) × IsSome (position is_queued (state_of library old).jobs) × Refuses library old new 2 why
 
--- Room for some entries in a journal of so many, or why there is none.
-abbrev pub RoomFor : (len owing limit need room : ℕ) → Result Unit Full → Type 0
-RoomFor len owing limit need room (Ok done) = (len + owing + need ≤ limit) × (len + owing + need ≤ room)
-RoomFor len owing limit need room (Err (full.JournalFull told owes)) = (told ≡ len) × (owes ≡ owing) × (limit < len + owing + need)
-RoomFor len owing limit need room (Err full.NoMemory) = len + owing + need ≤ limit
+-- Room for some entries in a journal of so many, or why there is none. Room that is there is left as it is.
+abbrev pub RoomFor : (len owing limit need old new : ℕ) → Result Unit Full → Type 0
+RoomFor len owing limit need old new (Ok done) = (len + owing + need ≤ limit) × (len + owing + need ≤ new) × (old ≤ new) × (len + owing + need ≤ old → new ≡ old)
+RoomFor len owing limit need old new (Err (full.JournalFull told owes)) = (new ≡ old) × (told ≡ len) × (owes ≡ owing) × (limit < len + owing + need)
+RoomFor len owing limit need old new (Err full.NoMemory) = (new ≡ old) × (len + owing + need ≤ limit) × (old < len + owing + need)
 
 -- A fact for the claim that is answered.
 abbrev pub IfClaimed : Result ClaimReply Full → (ClaimOf → Type 0) → Type 0
@@ -145,7 +154,7 @@ IfClaimed (Ok (claims.Idle len)) fact = Unit {0}
 IfClaimed (Err why) fact = Unit {0}
 
 -- A fact for the recipe that isn't filed.
-abbrev pub IfPending : {F : Type 0} → Result (PlayReply F) Full → (Recipe → Type 0) → Type 0
+abbrev pub IfPending : {F E : Type 0} → Result (PlayReply F) E → (Recipe → Type 0) → Type 0
 IfPending (Ok (play.Pending recipe)) fact = fact recipe
 IfPending (Ok (play.Frame frame)) fact = Unit {0}
 IfPending (Ok (play.Fault fault)) fact = Unit {0}

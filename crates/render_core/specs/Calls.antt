@@ -1,17 +1,10 @@
 -- Lists of calls: what led from one board to another, and what the journal then has.
 use Rattle.std.specs.Prelude.{◌≡◌, ℕ, ◌+◌, List, [], ◌∷◌, ◌++◌, map, length, Option, Some, None}
 use Rattle.tl_model.specs.Media.{Library}
-use Rattle.tl_model.specs.declared.journal.Act.{Act}
 use Rattle.tl_model.specs.declared.journal.Entry.{Entry}
 use Rattle.render_core.specs.State.{State}
 use Rattle.render_core.specs.Step.{Reply, step, reply, state_after, AreLegal}
-use Rattle.render_core.specs.Board.{BoardOf, IsSame, Adds, state_of}
-
--- A call that has an entry, and what it was told.
-pub record CallOf (F : Type 0) : Type 0 where
-  pub pass : ℕ
-  pub act : Act
-  pub told : Reply F
+use Rattle.render_core.specs.Board.{BoardOf, CallOf, Makes}
 
 abbrev pub entry_of : {F : Type 0} → CallOf F → Entry
 entry_of call = record { pass = call.pass; act = call.act }
@@ -28,11 +21,6 @@ replies lib cache count [] s = []
 replies lib cache count (e ∷ es) s = reply lib e.act s ∷ replies lib cache (count + 1) es (step lib cache (count + 1) e.pass e.act s)
 
 module _ {M F : Type 0} where
-  -- A call adds its entry and is told the machine's reply; one that is refused or has no entry leaves the board the same.
-  abbrev pub Makes : (M → Library F) → (old new : BoardOf M) → Option (CallOf F) → Type 0
-  Makes library old new None = IsSame old new
-  Makes library old new (Some call) = Adds library old new call.pass call.act × (call.told ≡ reply (library old.library) call.act (state_of library old))
-
   -- The calls, one after the other, lead from one board to another.
   abbrev pub Runs : (M → Library F) → (old new : BoardOf M) → List (Option (CallOf F)) → Type 0
   Runs library old new [] = new ≡ old

@@ -7,7 +7,8 @@ use Rattle.tl_model.specs.declared.recipe.Recipe.{Recipe}
 use Rattle.time_list.specs.Cells.{Cell, is_among}
 use Rattle.time_list.specs.Apply.{IsSound}
 use Rattle.render_core.specs.declared.job.Job.{Job}
-use Rattle.render_core.specs.State.{State, is_open, without}
+use Rattle.render_core.specs.Claim.{ClaimOf}
+use Rattle.render_core.specs.State.{State, is_open, without, Holds}
 
 -- Where a recipe first stands in a list.
 abbrev pub Places : Recipe → List Recipe → Option ℕ → Type 0
@@ -40,6 +41,10 @@ pub record MachineOf (M : Type 0) : Type 0 where
   pub library : M
   pub cache : ℕ
   pub state : State
+
+-- Some pass holds the job of a claim.
+abbrev pub IsHeld : State → ClaimOf → Type 0
+IsHeld s claim = (pass : ℕ) × Holds s pass claim.job claim.recipe
 
 -- Every job's recipe can be rendered.
 abbrev pub AreShown : {F : Type 0} → Library F → List Job → Type 0

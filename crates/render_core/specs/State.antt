@@ -1,5 +1,5 @@
 -- The state of the machine: the timeline, the jobs, and the recipes of the filed results, latest first.
-use Rattle.std.specs.Prelude.{◌≡◌, ℕ, zero, suc, ◌+◌, ◌-◌, ◌≤◌, if◌then◌else◌, not, ◌&&◌, ◌||◌, Bool, false, List, [], ◌∷◌, ◌++◌, take, drop, slice_get, Option, Some, None, is_some, is_none}
+use Rattle.std.specs.Prelude.{◌≡◌, ℕ, zero, suc, ◌+◌, ◌-◌, ◌≤◌, if◌then◌else◌, not, ◌&&◌, ◌||◌, Bool, false, List, [], ◌∷◌, ◌++◌, length, take, drop, slice_get, Option, Some, None, is_some, is_none}
 use Rattle.std.specs.List.{count_by, list_any}
 use Rattle.tl_model.specs.Recipe.{same_recipe}
 use Rattle.tl_model.specs.declared.recipe.Recipe.{Recipe}
@@ -76,3 +76,8 @@ pub record Holds (s : State) (pass n : ℕ) (recipe : Recipe) : Type 0 where
   pub counted : 1 ≤ n
   pub closed : Option ℕ
   pub is_job : slice_get s.jobs (n - 1) ≡ Some (record { recipe = recipe; holder = Some pass; closed = closed })
+
+-- What holds after every journal: the results are at most as many as the cache holds, and a recipe has an open job or a filed result at most once.
+pub record IsOrderly (cache : ℕ) (s : State) : Type 0 where
+  pub few : length s.filed ≤ cache
+  pub once : (recipe : Recipe) → count_by (λ job. is_open job && same_recipe recipe job.recipe) s.jobs + count_by (same_recipe recipe) s.filed ≤ 1

@@ -7,13 +7,13 @@ ghost use Rattle.tl_model.specs.Media.{RenderedOf, CanRender};
 ghost use Rattle.tl_model.specs.declared.journal.Act.TheVariants as act;
 ghost use Rattle.tl_model.specs.declared.journal.Entry.{Entry};
 ghost use Rattle.render_core.specs.declared.reply.Full.TheVariants as full;
-ghost use Rattle.render_core.specs.State.{owed, Holds};
+ghost use Rattle.render_core.specs.State.{owed, Holds, IsOrderly};
 ghost use Rattle.render_core.specs.Claim.{EndsNone};
-ghost use Rattle.render_core.specs.Calls.{CallOf, entered, Runs, Journals};
-ghost use Rattle.render_core.specs.Step.{IsJournal, state_after, is_filed};
+ghost use Rattle.render_core.specs.Calls.{entered, Runs, Journals};
+ghost use Rattle.render_core.specs.Step.{IsJournal, state_after, is_filed, Silent};
 ghost use Rattle.tl_model.specs.declared.recipe.Recipe.{Recipe};
 ghost use Rattle.time_list.specs.Cells.{recipes};
-ghost use Rattle.render_core.specs.Board.{BoardOf, state_of, IsSame, HasRoom, MakesRoom, RoomFor, Does, Adds, Pays, Claims, IfClaimed, of_edit, of_want, of_cancel, of_file, of_release, of_play, IfPending};
+ghost use Rattle.render_core.specs.Board.{BoardOf, state_of, IsSame, HasRoom, MakesRoom, RoomFor, CallOf, Makes, Does, Pays, Claims, IfClaimed, of_edit, of_want, of_cancel, of_file, of_release, of_play, IfPending};
 
 use crate::claim::{Claim, Stopper};
 use crate::machine::Machine;
@@ -23,7 +23,8 @@ use std::marker::Model;
 use time_list::Lane;
 use tl_model::{Act, Edit, EditReply, Entry, Media, Rendered};
 
-/// The editing core: a timeline, jobs, filed results and the journal of all calls.
+/// The editing core: a timeline, jobs, filed results and the journal of all calls. It stands for the state after its
+/// journal; the entries and those that are owed are within the limit, and have memory.
 #[derive(Drop)]
 pub struct Board<M: Media, L: Lane> {
     machine: Machine<M, L>,
@@ -45,7 +46,8 @@ impl<M: Media, L: Lane> Model for Board<M, L> {
 }
 
 impl<M: Media, L: Lane> Board<M, L> {
-    /// An empty timeline and an empty journal. The board notes the library; the stop's entry is owed from the start.
+    /// An empty timeline and an empty journal. The board notes the library, keeps at most `cache` filed results, and
+    /// takes at most `limit` entries. The stop's entry is owed from the start.
     pub fn start(
         alloc: Global,
         media: &M,
@@ -70,13 +72,13 @@ impl<M: Media, L: Lane> Board<M, L> {
         Ok((board, Stopper { of: () }))
     }
 
-    /// The journal.
+    /// The journal, which is legal. After it a recipe has an open job or a filed result at most once.
     pub fn entries(&self) -> &[Entry]
         ensures entries { result.now ≡ self.now.journal }
         ensures legal { IsJournal (M.library self.now.library) self.now.cache self.now.journal }
         ensures within { length self.now.journal + owed (state_of M.library self.now) ≤ self.now.limit }
+        ensures orderly { IsOrderly self.now.cache (state_of M.library self.now) }
     {
-        let _ = &self.machine;
         self.journal.as_slice()
     }
 
@@ -97,7 +99,6 @@ impl<M: Media, L: Lane> Board<M, L> {
         ensures held { IsTrue result → Holds (state_of M.library self.now) by claim.now.job claim.now.recipe }
         ensures free { Holds (state_of M.library self.now) by claim.now.job claim.now.recipe → IsTrue result }
     {
-        let _ = &self.journal;
         self.machine.holds(by, claim)
     }
 
@@ -105,7 +106,6 @@ impl<M: Media, L: Lane> Board<M, L> {
     pub fn is_stopped(&self) -> bool
         ensures { result ≡ (state_of M.library self.now).is_stopped }
     {
-        let _ = &self.journal;
         self.machine.is_stopped()
     }
 
@@ -134,20 +134,7 @@ impl<M: Media, L: Lane> Board<M, L> {
         requires { need ≤ 2 }
         ensures { MakesRoom M.library self.old self.new need result }
     {
-        let len = self.journal.len() as u64;
-        if len + self.owed + need > self.limit {
-            return Err(Full::JournalFull {
-                len,
-                owed: self.owed,
-            });
-        }
-        if need <= self.spare() {
-            return Ok(());
-        }
-        match self.journal.reserve((self.owed + need) as usize) {
-            Ok(()) => Ok(()),
-            Err(_) => Err(Full::NoMemory),
-        }
+        room_for(&mut self.journal, self.owed, self.limit, need)
     }
 
     /// Makes an edit. A refused one has its entry and changes nothing else; an accepted one closes each open job
@@ -163,45 +150,34 @@ impl<M: Media, L: Lane> Board<M, L> {
         requires formed { IsEdit edit.now }
         ensures { Does M.library self.old self.new by (act.Edit edit.now) of_edit result }
     {
-        match self.make_room(1) {
-            Ok(()) => {}
-            Err(why) => return Err(why),
-        }
+        self.make_room(1)?;
         let Ok(copy) = edit.copy(alloc) else {
             return Err(Full::NoMemory);
         };
         let at = self.journal.len() as u64 + 1;
-        match self.machine.edit(alloc, media, edit, at) {
-            Ok(reply) => {
-                self.journal.push_reserved(Entry {
-                    pass: by,
-                    act: Act::Edit(copy),
-                });
-                Ok(reply)
-            }
-            Err(why) => Err(why),
-        }
+        let Ok(reply) = self.machine.edit(alloc, media, edit, at) else {
+            return Err(Full::NoMemory);
+        };
+        self.journal.push_reserved(Entry {
+            pass: by,
+            act: Act::Edit(copy),
+        });
+        Ok(reply)
     }
 
     /// Wants the pictures of a range of frames: each recipe that isn't filed and has no open job gets the next job.
     pub fn want(&mut self, by: u32, first: u32, len: u32) -> Result<WantReply, Full>
         ensures { Does M.library self.old self.new by (act.Want first len) of_want result }
     {
-        match self.make_room(1) {
-            Ok(()) => {}
-            Err(why) => return Err(why),
-        }
-        let at = self.journal.len() as u64 + 1;
-        match self.machine.want(at, first, len) {
-            Ok(reply) => {
-                self.journal.push_reserved(Entry {
-                    pass: by,
-                    act: Act::Want { first, len },
-                });
-                Ok(reply)
-            }
-            Err(why) => Err(why),
-        }
+        self.make_room(1)?;
+        let Ok(reply) = self.machine.want(first, len) else {
+            return Err(Full::NoMemory);
+        };
+        self.journal.push_reserved(Entry {
+            pass: by,
+            act: Act::Want { first, len },
+        });
+        Ok(reply)
     }
 
     /// Cancels the wanted frames of a range: each open job with a recipe of the range is closed.
@@ -210,10 +186,7 @@ impl<M: Media, L: Lane> Board<M, L> {
         ensures sure { 1 ≤ self.old.spare → result ≢ Err full.NoMemory }
         ensures uses { 1 ≤ self.old.spare → OnOk result (self.new.spare + 1 ≡ self.old.spare) }
     {
-        match self.make_room(1) {
-            Ok(()) => {}
-            Err(why) => return Err(why),
-        }
+        self.make_room(1)?;
         let at = self.journal.len() as u64 + 1;
         let reply = self.machine.cancel(at, first, len);
         self.journal.push_reserved(Entry {
@@ -237,10 +210,7 @@ impl<M: Media, L: Lane> Board<M, L> {
         let Some(place) = self.machine.lowest_queued() else {
             return Ok(ClaimReply::Idle { len });
         };
-        match room_for(&mut self.journal, self.owed, self.limit, 2) {
-            Ok(()) => {}
-            Err(why) => return Err(why),
-        }
+        room_for(&mut self.journal, self.owed, self.limit, 2)?;
         let claim = self.machine.claim(by, place);
         self.journal.push_reserved(Entry {
             pass: by,
@@ -264,7 +234,7 @@ impl<M: Media, L: Lane> Board<M, L> {
     {
         let job = claim.job();
         let at = self.journal.len() as u64 + 1;
-        match self.machine.file(at, by, claim, rendered) {
+        match self.machine.file(at, claim, rendered) {
             Ok(reply) => {
                 self.journal.push_reserved(Entry {
                     pass: by,
@@ -283,7 +253,7 @@ impl<M: Media, L: Lane> Board<M, L> {
         ensures { Pays M.library self.old self.new by (act.Release claim.job) of_release result }
     {
         let job = claim.job();
-        let reply = self.machine.release(by, claim);
+        let reply = self.machine.release(claim);
         self.journal.push_reserved(Entry {
             pass: by,
             act: Act::Release { job },
@@ -292,35 +262,30 @@ impl<M: Media, L: Lane> Board<M, L> {
         reply
     }
 
-    /// Plays frame `n`: its picture, exactly where its recipe is filed; a pending recipe can be rendered. While `spare` is at least 1, only a frame whose
-    /// recipe is filed can want memory, since its picture is shared then.
+    /// Plays frame `n`: its picture or its fault, exactly where its recipe is filed. A pending recipe can be rendered.
+    /// While `spare` is at least 1, only a frame whose recipe is filed can want memory, since its picture is shared.
     pub fn play(&mut self, by: u32, n: u32) -> Result<PlayReply<M::Frame>, Full>
         ensures done { Does M.library self.old self.new by (act.Play n) of_play result }
         ensures uses { 1 ≤ self.old.spare → OnOk result (self.new.spare + 1 ≡ self.old.spare) }
         ensures renders { IfPending result (λ recipe. CanRender (M.library self.new.library) recipe) }
         ensures filed { 1 ≤ self.old.spare → result ≡ Err full.NoMemory → IsTrue (is_filed (slice_get (recipes (state_of M.library self.old).line) n) (state_of M.library self.old)) }
     {
-        match self.make_room(1) {
-            Ok(()) => {}
-            Err(why) => return Err(why),
-        }
-        match self.machine.play(n) {
-            Ok(reply) => {
-                self.journal.push_reserved(Entry {
-                    pass: by,
-                    act: Act::Play { n },
-                });
-                Ok(reply)
-            }
-            Err(why) => Err(why),
-        }
+        self.make_room(1)?;
+        let Ok(reply) = self.machine.play(n) else {
+            return Err(Full::NoMemory);
+        };
+        self.journal.push_reserved(Entry {
+            pass: by,
+            act: Act::Play { n },
+        });
+        Ok(reply)
     }
 
     /// Stops the session. It can't be refused.
     pub fn stop(&mut self, by: u32, stopper: Stopper)
         requires main { by ≡ 0 }
         requires once { (state_of M.library self.old).is_stopped ≡ false }
-        ensures added { Adds M.library self.old self.new by act.Stop }
+        ensures made { Makes M.library self.old self.new (Some (record { pass = by; act = act.Stop; told = Silent })) }
         ensures spare { self.new.spare ≡ self.old.spare }
     {
         let Stopper { of: () } = stopper;
@@ -340,13 +305,14 @@ fn room_for(journal: &mut Vec<Entry>, owed: u64, limit: u64, need: u64) -> Resul
     requires need { need ≤ 2 }
     requires kept { length journal.old.items + owed ≤ vec_capacity journal.old }
     ensures items { journal.new.items ≡ journal.old.items }
-    ensures room { RoomFor (length journal.old.items) owed limit need (vec_capacity journal.new) result }
-    ensures kept { vec_capacity journal.old ≤ vec_capacity journal.new }
-    ensures err { OnErr result (vec_capacity journal.new ≡ vec_capacity journal.old) }
+    ensures room { RoomFor (length journal.old.items) owed limit need (vec_capacity journal.old) (vec_capacity journal.new) result }
 {
     let len = journal.len() as u64;
     if len + owed + need > limit {
         return Err(Full::JournalFull { len, owed });
+    }
+    if len + owed + need <= journal.capacity() as u64 {
+        return Ok(());
     }
     match journal.reserve((owed + need) as usize) {
         Ok(()) => Ok(()),

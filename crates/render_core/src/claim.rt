@@ -28,6 +28,7 @@ impl Claim {
         self.job
     }
 
+    /// What is to be rendered.
     pub fn recipe(&self) -> Recipe
         ensures { result ≡ self.now.recipe }
     {

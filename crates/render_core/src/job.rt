@@ -12,7 +12,7 @@ use std::alloc::AllocError;
 use time_list::{Lane, recipe_in};
 use tl_model::{Media, Recipe, Rendered};
 
-/// A recipe to be rendered: the pass that holds the job, and the entry that closed it.
+/// A recipe to be rendered: the pass that holds the job, and the number of the entry that closed it, from 1.
 #[derive(Clone, Copy, Debug, PartialEq, Eq)]
 pub struct Job {
     pub recipe: Recipe,
@@ -21,12 +21,14 @@ pub struct Job {
 }
 
 impl Job {
+    /// Whether no entry closed the job.
     pub fn is_open(&self) -> bool
         ensures { result ≡ is_open self.now }
     {
         self.closed.is_none()
     }
 
+    /// Whether the job is open and no pass holds it.
     pub fn is_queued(&self) -> bool
         ensures { result ≡ is_queued self.now }
     {
@@ -52,9 +54,8 @@ fn after_edit<L: Lane>(job: Job, lane: &L, at: u64) -> Job
 {
     if job.is_open() && !lane.uses(job.recipe) {
         Job {
-            recipe: job.recipe,
-            holder: job.holder,
             closed: Some(at),
+            ..job
         }
     } else {
         job
@@ -77,9 +78,8 @@ fn after_cancel<L: Lane>(job: Job, lane: &L, first: u32, len: u32, at: u64) -> J
 {
     if job.is_open() && has_recipe(lane, first, len, job.recipe) {
         Job {
-            recipe: job.recipe,
-            holder: job.holder,
             closed: Some(at),
+            ..job
         }
     } else {
         job
@@ -145,9 +145,8 @@ pub(crate) fn hold(jobs: &mut Vec<Job>, place: usize, by: u32) -> Job
 {
     let job = jobs[place];
     jobs[place] = Job {
-        recipe: job.recipe,
         holder: Some(by),
-        closed: job.closed,
+        ..job
     };
     job
 }
@@ -160,9 +159,8 @@ pub(crate) fn let_go(jobs: &mut Vec<Job>, place: usize) -> Job
 {
     let job = jobs[place];
     jobs[place] = Job {
-        recipe: job.recipe,
         holder: None,
-        closed: job.closed,
+        ..job
     };
     job
 }
@@ -174,9 +172,9 @@ pub(crate) fn end(jobs: &mut Vec<Job>, place: usize, at: u64)
 {
     let job = jobs[place];
     jobs[place] = Job {
-        recipe: job.recipe,
         holder: None,
         closed: Some(at),
+        ..job
     };
 }
 

@@ -10,19 +10,21 @@ ghost use Rattle.time_list.specs.Cells.{recipes};
 ghost use Rattle.render_core.specs.State.{start, is_queued, Holds};
 ghost use Rattle.render_core.specs.Step.{step, reply, claimed, is_filed};
 ghost use Rattle.render_core.specs.Board.{Turns, of_edit, of_want, of_cancel, of_file, of_release, of_play, IfPending};
-ghost use Rattle.render_core.specs.Parts.{MachineOf, in_state};
+ghost use Rattle.render_core.specs.Parts.{MachineOf, in_state, IsHeld};
 
 use crate::claim::Claim;
 use crate::filed::{place_of, shared};
 use crate::job;
 use crate::job::{Job, close_range, close_unused, count_range, want_range};
-use crate::reply::{CancelReply, FileReply, Full, PlayReply, ReleaseReply, WantReply};
-use std::alloc::{AllocFailed, Global};
+use crate::reply::{CancelReply, FileReply, PlayReply, ReleaseReply, WantReply};
+use std::alloc::{AllocError, AllocFailed, Global};
 use std::marker::Model;
 use std::snapshot::Snapshot;
 use time_list::{ApplyFault, Lane, keeps_sound, recipe_in};
 use tl_model::{Edit, EditReply, Media, Rendered};
 
+/// What the calls of a board work on. Every filed result was rendered in the library, no recipe has two open jobs, and
+/// the recipe of every frame and job can be rendered.
 #[derive(Drop)]
 pub(crate) struct Machine<M: Media, L: Lane> {
     library: Snapshot<M>,
@@ -44,6 +46,7 @@ impl<M: Media, L: Lane> Model for Machine<M, L> {
 }
 
 impl<M: Media, L: Lane> Machine<M, L> {
+    /// No frames, no jobs, no results.
     pub(crate) fn start(alloc: Global, media: &M, cache: u32) -> Machine<M, L>
         ensures { result ≡ record { library = media.now; cache = cache; state = start } }
     {
@@ -57,6 +60,7 @@ impl<M: Media, L: Lane> Machine<M, L> {
         }
     }
 
+    /// Whether the session was stopped.
     pub(crate) fn is_stopped(&self) -> bool
         ensures { result ≡ self.now.state.is_stopped }
     {
@@ -78,13 +82,14 @@ impl<M: Media, L: Lane> Machine<M, L> {
         self.jobs.iter().position(|job| job.is_queued())
     }
 
+    /// Makes an edit or refuses it, as entry `at`.
     pub(crate) fn edit(
         &mut self,
         alloc: Global,
         media: &M,
         edit: &Edit,
         at: u64,
-    ) -> Result<EditReply, Full>
+    ) -> Result<EditReply, AllocError>
         requires library { media.now ≡ self.old.library }
         requires formed { IsEdit edit.now }
         ensures { Turns self.old self.new (step (M.library self.old.library) self.old.cache at 0 (act.Edit edit.now) self.old.state) (reply (M.library self.old.library) (act.Edit edit.now) self.old.state) of_edit result }
@@ -98,27 +103,25 @@ impl<M: Media, L: Lane> Machine<M, L> {
                 })
             }
             Err(ApplyFault::Refused(why)) => Ok(EditReply::Refused(why)),
-            Err(ApplyFault::NoMemory) => Err(Full::NoMemory),
+            Err(ApplyFault::NoMemory) => Err(AllocError),
         }
     }
 
-    pub(crate) fn want(&mut self, at: u64, first: u32, len: u32) -> Result<WantReply, Full>
-        ensures { Turns self.old self.new (step (M.library self.old.library) self.old.cache at 0 (act.Want first len) self.old.state) (reply (M.library self.old.library) (act.Want first len) self.old.state) of_want result }
+    /// Makes the jobs of a range.
+    pub(crate) fn want(&mut self, first: u32, len: u32) -> Result<WantReply, AllocError>
+        ensures { Turns self.old self.new (step (M.library self.old.library) self.old.cache 0 0 (act.Want first len) self.old.state) (reply (M.library self.old.library) (act.Want first len) self.old.state) of_want result }
     {
-        let _ = at;
         let frames = self.lane.frames();
         if u64::from(first) + u64::from(len) > u64::from(frames) {
             return Ok(WantReply::PastEnd { len: frames });
         }
         let before = self.jobs.len();
-        match want_range(&mut self.jobs, &self.lane, &self.filed, first, len) {
-            Ok(()) => {}
-            Err(_) => return Err(Full::NoMemory),
-        }
+        want_range(&mut self.jobs, &self.lane, &self.filed, first, len)?;
         let count = (self.jobs.len() - before) as u32;
         Ok(WantReply::Wanted { count })
     }
 
+    /// Closes the open jobs of a range, as entry `at`.
     pub(crate) fn cancel(&mut self, at: u64, first: u32, len: u32) -> CancelReply
         ensures state { self.new ≡ in_state (step (M.library self.old.library) self.old.cache at 0 (act.Cancel first len) self.old.state) self.old }
         ensures reply { of_cancel result ≡ reply (M.library self.old.library) (act.Cancel first len) self.old.state }
@@ -147,19 +150,17 @@ impl<M: Media, L: Lane> Machine<M, L> {
         }
     }
 
-    /// Ends a job that its pass holds, with its result. After want of memory the claim and the result come back.
+    /// Ends a job that a pass holds with its result, as entry `at`. After want of memory the claim and the result come back.
     pub(crate) fn file(
         &mut self,
         at: u64,
-        by: u32,
         claim: Claim,
         rendered: Rendered<M>,
     ) -> Result<FileReply, (Claim, Rendered<M>)>
-        requires held { Holds self.old.state by claim.job claim.recipe }
+        requires held { IsHeld self.old.state claim }
         requires rendered { rendered ≡ record { recipe = claim.recipe; library = self.old.library } }
-        ensures { MatchResult result (λ given. (self.new ≡ in_state (step (M.library self.old.library) self.old.cache at by (act.File claim.job) self.old.state) self.old) × (of_file given ≡ reply (M.library self.old.library) (act.File claim.job) self.old.state)) (λ back. (self.new ≡ self.old) × (back.0 ≡ claim) × (back.1 ≡ rendered)) }
+        ensures { MatchResult result (λ given. (self.new ≡ in_state (step (M.library self.old.library) self.old.cache at 0 (act.File claim.job) self.old.state) self.old) × (of_file given ≡ reply (M.library self.old.library) (act.File claim.job) self.old.state)) (λ back. (self.new ≡ self.old) × (back.0 ≡ claim) × (back.1 ≡ rendered)) }
     {
-        let _ = by;
         let Claim { job, recipe } = claim;
         let place = (job - 1) as usize;
         if let Some(closed) = self.jobs[place].closed {
@@ -174,13 +175,12 @@ impl<M: Media, L: Lane> Machine<M, L> {
         Ok(FileReply::Filed)
     }
 
-    /// Gives a job back that its pass holds.
-    pub(crate) fn release(&mut self, by: u32, claim: Claim) -> ReleaseReply
-        requires { Holds self.old.state by claim.job claim.recipe }
-        ensures state { self.new ≡ in_state (step (M.library self.old.library) self.old.cache 0 by (act.Release claim.job) self.old.state) self.old }
+    /// Gives a job back that a pass holds.
+    pub(crate) fn release(&mut self, claim: Claim) -> ReleaseReply
+        requires { IsHeld self.old.state claim }
+        ensures state { self.new ≡ in_state (step (M.library self.old.library) self.old.cache 0 0 (act.Release claim.job) self.old.state) self.old }
         ensures reply { of_release result ≡ reply (M.library self.old.library) (act.Release claim.job) self.old.state }
     {
-        let _ = by;
         let Claim { job, recipe: _ } = claim;
         let held = job::let_go(&mut self.jobs, (job - 1) as usize);
         match held.closed {
@@ -189,7 +189,8 @@ impl<M: Media, L: Lane> Machine<M, L> {
         }
     }
 
-    pub(crate) fn play(&mut self, n: u32) -> Result<PlayReply<M::Frame>, Full>
+    /// The filed result of a frame, which comes first, or its recipe.
+    pub(crate) fn play(&mut self, n: u32) -> Result<PlayReply<M::Frame>, AllocError>
         ensures turn { Turns self.old self.new (step (M.library self.old.library) self.old.cache 0 0 (act.Play n) self.old.state) (reply (M.library self.old.library) (act.Play n) self.old.state) of_play result }
         ensures renders { IfPending result (λ recipe. CanRender (M.library self.old.library) recipe) }
         ensures filed { OnErr result (IsTrue (is_filed (slice_get (recipes self.old.state.line) n) self.old.state)) }
@@ -202,14 +203,13 @@ impl<M: Media, L: Lane> Machine<M, L> {
         let Some(place) = place_of(&self.filed, recipe) else {
             return Ok(PlayReply::Pending { recipe });
         };
-        let Ok(given) = shared(&self.filed[place]) else {
-            return Err(Full::NoMemory);
-        };
+        let given = shared(&self.filed[place])?;
         let rendered = self.filed.remove(place);
         self.filed.insert(0, rendered).unwrap();
         Ok(given)
     }
 
+    /// No more claims.
     pub(crate) fn stop(&mut self)
         ensures { self.new ≡ in_state (step (M.library self.old.library) self.old.cache 0 0 act.Stop self.old.state) self.old }
     {

@@ -13,6 +13,7 @@ pub enum Full {
     NoMemory,
 }
 
+/// What answers a want.
 #[derive(Clone, Copy, Debug, PartialEq, Eq)]
 pub enum WantReply {
     /// So many jobs were made.
@@ -21,6 +22,7 @@ pub enum WantReply {
     PastEnd { len: u32 },
 }
 
+/// What answers a cancellation.
 #[derive(Clone, Copy, Debug, PartialEq, Eq)]
 pub enum CancelReply {
     /// So many jobs were closed.
@@ -32,6 +34,7 @@ pub enum CancelReply {
 /// What answers a claim. The last two append no entry.
 #[derive(Debug)]
 pub enum ClaimReply {
+    /// The lowest queued job.
     Claimed(Claim),
     /// No job is queued; the journal has `len` entries.
     Idle { len: u64 },
@@ -39,13 +42,16 @@ pub enum ClaimReply {
     Stopped { len: u64 },
 }
 
+/// What answers the result of a job.
 #[derive(Clone, Copy, Debug, PartialEq, Eq)]
 pub enum FileReply {
+    /// The result comes first among the filed ones, and the job is closed.
     Filed,
     /// The job had been closed by the entry `at`.
     Closed { at: u64 },
 }
 
+/// What answers a job that is given back.
 #[derive(Clone, Copy, Debug, PartialEq, Eq)]
 pub enum ReleaseReply {
     /// The job is queued again.
@@ -54,9 +60,12 @@ pub enum ReleaseReply {
     Closed { at: u64 },
 }
 
+/// What answers a play.
 #[derive(Drop)]
 pub enum PlayReply<F> {
+    /// The frame's picture, shared with the filed result.
     Frame(Arc<F>),
+    /// The frame's recipe is filed, and couldn't be rendered.
     Fault(RenderFault),
     /// The frame's recipe isn't filed.
     Pending { recipe: Recipe },

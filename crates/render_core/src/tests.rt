@@ -3,8 +3,11 @@
 mod numbers;
 mod session;
 
+use crate::board::Board;
 use crate::reply::{CancelReply, FileReply, Full, ReleaseReply, WantReply};
+use numbers::Numbers;
 use session::{Row, Told, play_rows};
+use time_list::ListLane;
 use tl_model::{Act, Edit, EditRefusal, EditReply, FrameFault, Recipe, RenderFault, Side};
 
 /// A wanted frame is cancelled while its job is held, and wanted again.
@@ -493,6 +496,12 @@ static EACH_REPLY: [Row; 47] = [
         told: Told::Full(Full::JournalFull { len: 38, owed: 0 }),
     },
 ];
+
+fn crosses_threads<T: Send>(_value: &T) {}
+
+fn board_crosses(board: &Board<Numbers, ListLane>) {
+    crosses_threads(board)
+}
 
 #[test]
 fn jobs_are_cancelled_filed_and_dropped(rt: HostRuntime) {

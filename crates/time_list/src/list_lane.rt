@@ -18,7 +18,8 @@ const MOST_FRAMES: u32 = 1_000_000;
 
 const MOST_SEGMENTS: usize = 100_000;
 
-/// A timeline as a list of segments. It goes through the list at each call.
+/// A timeline as a list of at most 100,000 segments, and the number of its frames, which is at most 1,000,000. It goes
+/// through the list at each call.
 #[derive(Drop)]
 pub struct ListLane {
     items: Vec<Segment>,

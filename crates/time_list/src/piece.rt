@@ -81,10 +81,8 @@ pub(crate) fn front(segment: &Segment, at: u32) -> Segment
     let mix = match segment.mix {
         None => None,
         Some(mix) => Some(Mix {
-            from: mix.from,
-            done: mix.done,
             steps: mix.steps.min(at),
-            total: mix.total,
+            ..mix
         }),
     };
     Segment {
@@ -104,7 +102,7 @@ fn back_mix(mix: Mix, at: u32) -> Option<Mix>
             from: moved(mix.from, at),
             done: mix.done + at,
             steps: mix.steps - at,
-            total: mix.total,
+            ..mix
         })
     } else {
         None

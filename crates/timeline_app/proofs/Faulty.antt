@@ -54,22 +54,22 @@ works_then tells file name script bytes clip works told faulty =
     let same : bytes ≡ other = same_bytes (file script.file) bytes other (works.job.fetched.told told) at in
     ok_or_err (clip_of other) clip fault (subst (λ (b : List ℕ). clip_of b ≡ Ok clip) same works.job.holds) bad)
 
-stop_then : {X : Type 0} (tells : Type 0) (file : List ℕ → Option (List ℕ)) (name : List ℕ) (rose : Type 0) (stop : Stop) → StopHasCause tells file name rose stop → stop_status stop ≡ 4
-    → tells → (rose → ⊥) → IsFaulty file name → X
-stop_then tells file name rose (stops.Unfetched of fault) (inl h) four told calm (inl (text, n, at, size, bad)) = unfetched tells (file name) 16777216 rose fault text h.1 told calm at size
-stop_then tells file name rose (stops.Unfetched of fault) (inl h) four told calm (inr (text, bytes, other, clip_fault, at, size, form, at_clip, clip_size, bad)) = unfetched tells (file name) 16777216 rose fault text h.1 told calm at size
-stop_then tells file name rose (stops.Unfetched of fault) (inr (script, read, h)) four told calm faulty =
-    script_then tells file name script read told faulty (λ bytes at size other bad. unfetched tells (file script.file) 2147483648 rose fault bytes h.1 told calm at size)
-stop_then tells file name rose (stops.Faulty n) cause four told calm faulty = absurd (omega (arith, four))
-stop_then tells file name rose (stops.FaultyClip of) cause four told calm faulty = absurd (omega (arith, four))
-stop_then tells file name rose stops.NoMemory cause four told calm faulty = absurd (omega (arith, four))
+stop_then : {X : Type 0} (tells : Type 0) (file : List ℕ → Option (List ℕ)) (name : List ℕ) (faults : Count) (stop : Stop) → StopHasCause tells file name faults stop → stop_status stop ≡ 4
+    → tells → (Rises faults → ⊥) → IsFaulty file name → X
+stop_then tells file name faults (stops.Unfetched of fault) (inl h) four told calm (inl (text, n, at, size, bad)) = unfetched tells (file name) 16777216 (Rises faults) fault text h.1 told calm at size
+stop_then tells file name faults (stops.Unfetched of fault) (inl h) four told calm (inr (text, bytes, other, clip_fault, at, size, form, at_clip, clip_size, bad)) = unfetched tells (file name) 16777216 (Rises faults) fault text h.1 told calm at size
+stop_then tells file name faults (stops.Unfetched of fault) (inr (script, read, h)) four told calm faulty =
+    script_then tells file name script read told faulty (λ bytes at size other bad. unfetched tells (file script.file) 2147483648 (Rises faults) fault bytes h.1 told calm at size)
+stop_then tells file name faults (stops.Faulty n) cause four told calm faulty = absurd (omega (arith, four))
+stop_then tells file name faults (stops.FaultyClip of) cause four told calm faulty = absurd (omega (arith, four))
+stop_then tells file name faults stops.NoMemory cause four told calm faulty = absurd (omega (arith, four))
 
-stopped_then : {X : Type 0} (tells rose : Type 0) (file : List ℕ → Option (List ℕ)) (name : List ℕ) (out_tells out_rose : Type 0) (before after : List ℕ)
-    → Stopped 4 (Some name) tells rose file out_tells out_rose before after → tells → (rose → ⊥) → IsFaulty file name → X
-stopped_then tells rose file name ot or before after stopped told calm faulty =
+stopped_then : {X : Type 0} (tells : Type 0) (faults : Count) (file : List ℕ → Option (List ℕ)) (name : List ℕ) (out_tells out_rose : Type 0) (before after : List ℕ)
+    → Stopped 4 (Some name) tells faults file out_tells out_rose before after → tells → (Rises faults → ⊥) → IsFaulty file name → X
+stopped_then tells faults file name ot or before after stopped told calm faulty =
     let named = stopped.named in
     let of : stopped.of ≡ name = cc in
-    stop_then tells file name rose stopped.stop (subst (λ (n : List ℕ). StopHasCause tells file n rose stopped.stop) of stopped.cause) stopped.status_is told calm faulty
+    stop_then tells file name faults stopped.stop (subst (λ (n : List ℕ). StopHasCause tells file n faults stopped.stop) of stopped.cause) stopped.status_is told calm faulty
 
 pub three_or_five : (asked : Option (List ℕ)) (name : List ℕ) (tells : Type 0) (faults : Count) (file : List ℕ → Option (List ℕ)) (vault_tells : Type 0) (vault_faults : Count) (old new : List ℕ → Option (List ℕ))
     (out_tells : Type 0) (out_faults : Count) (before after : List ℕ) (status : ℕ) → Runs asked tells faults file vault_tells vault_faults old new out_tells out_faults before after status
@@ -83,8 +83,8 @@ three_or_five asked name tells faults file vt vf old new ot outf before after st
   | inr (inr (inr (inl four))) ↦ elim (runs.outside four) [
     | inl unsaid ↦ works_then tells file name unsaid.script unsaid.bytes unsaid.clip (subst (λ (n : Option (List ℕ)). Works n tells file unsaid.script unsaid.bytes unsaid.clip) asked_is unsaid.works) told faulty
     | inr (inl stopped) ↦
-        stopped_then tells (Rises faults) file name ot (Rises outf) before after
-        (subst (λ (n : Option (List ℕ)). Stopped 4 n tells (Rises faults) file ot (Rises outf) before after) asked_is stopped) told calm faulty
+        stopped_then tells faults file name ot (Rises outf) before after
+        (subst (λ (n : Option (List ℕ)). Stopped 4 n tells faults file ot (Rises outf) before after) asked_is stopped) told calm faulty
     | inr (inr unsunk) ↦ works_then tells file name unsunk.script unsunk.bytes unsunk.clip (subst (λ (n : Option (List ℕ)). Works n tells file unsunk.script unsunk.bytes unsunk.clip) asked_is unsunk.works) told faulty
   ]
   | inr (inr (inr (inr five))) ↦ inr five

@@ -22,9 +22,9 @@ stops_with tells faults before after text (Err putting.Failed) status h = record
 stops_with tells faults before after text (Err putting.NoMemory) status h = record { ended = inl refl; said = h.1 }
 
 -- The words aren't of the form, and memory may have run out.
-misused_by : (tells : Type 0) (faults : Count) (file : List ℕ → Option (List ℕ)) (vault_tells : Type 0) (vault_faults : Count) (old : List ℕ → Option (List ℕ)) (out_tells : Type 0) (out_faults : Count) (before after : List ℕ) (status : ℕ)
-    → (status ≡ 5) ⊎ ((status ≡ 2) × Puts out_tells (Rises out_faults) before after usage_line) → SaysTranscript None tells (Rises faults) file vault_tells vault_faults old out_tells before after
-    → Runs None tells faults file vault_tells vault_faults old old out_tells out_faults before after status
+misused_by : (tells : Type 0) (faults : Count) (file : List ℕ → Option (List ℕ)) (vault_tells : Type 0) (vault_count : ℕ) (old : List ℕ → Option (List ℕ)) (out_tells : Type 0) (out_faults : Count) (before after : List ℕ) (status : ℕ)
+    → (status ≡ 5) ⊎ ((status ≡ 2) × Puts out_tells (Rises out_faults) before after usage_line) → SaysTranscript None tells faults file vault_tells (vault_count, vault_count) old out_tells before after
+    → Runs None tells faults file vault_tells (vault_count, vault_count) old old out_tells out_faults before after status
 misused_by tells faults file vt vf old ot outf before after status (inl memory) lines = record {
   played = λ e. absurd (omega (arith, e, memory));
   calm = λ e. absurd (omega (arith, e, memory));
@@ -34,6 +34,7 @@ misused_by tells faults file vt vf old ot outf before after status (inl memory) 
   no_other = inr (inr (inr (inr memory)));
   usage = λ _. inr memory;
   files = λ told other. inl refl;
+  asked = inl (refl, λ told other. refl);
   lines = lines;
 }
 misused_by tells faults file vt vf old ot outf before after status (inr h) lines = record {
@@ -45,12 +46,13 @@ misused_by tells faults file vt vf old ot outf before after status (inr h) lines
   no_other = inr (inl h.0);
   usage = λ _. inl h.0;
   files = λ told other. inl refl;
+  asked = inl (refl, λ told other. refl);
   lines = lines;
 }
 
 -- The words aren't of the form.
-pub run_misused : (tells : Type 0) (faults : Count) (file : List ℕ → Option (List ℕ)) (vault_tells : Type 0) (vault_faults : Count) (old : List ℕ → Option (List ℕ)) (out_tells : Type 0) (out_faults : Count) (before after : List ℕ) (status : ℕ)
-    → StopsWith out_tells (Rises out_faults) before after usage_line 2 status → Runs None tells faults file vault_tells vault_faults old old out_tells out_faults before after status
+pub run_misused : (tells : Type 0) (faults : Count) (file : List ℕ → Option (List ℕ)) (vault_tells : Type 0) (vault_count : ℕ) (old : List ℕ → Option (List ℕ)) (out_tells : Type 0) (out_faults : Count) (before after : List ℕ) (status : ℕ)
+    → StopsWith out_tells (Rises out_faults) before after usage_line 2 status → Runs None tells faults file vault_tells (vault_count, vault_count) old old out_tells out_faults before after status
 run_misused tells faults file vt vf old ot outf before after status h = misused_by tells faults file vt vf old ot outf before after status h.ended (usage_line, inl (refl, refl), h.said)
 
 -- a name that is there is none that isn't
@@ -58,8 +60,8 @@ named : {A : Type 0} (name : List ℕ) → Some name ≡ None → A
 named name e = absurd cc
 
 -- The session didn't start, for want of memory.
-early_memory : (name : List ℕ) (tells : Type 0) (faults : Count) (file : List ℕ → Option (List ℕ)) (vault_tells : Type 0) (vault_faults : Count) (old : List ℕ → Option (List ℕ)) (out_tells : Type 0) (out_faults : Count) (before after : List ℕ) (status : ℕ)
-    → status ≡ 5 → SaysTranscript (Some name) tells (Rises faults) file vault_tells vault_faults old out_tells before after → Runs (Some name) tells faults file vault_tells vault_faults old old out_tells out_faults before after status
+early_memory : (name : List ℕ) (tells : Type 0) (faults : Count) (file : List ℕ → Option (List ℕ)) (vault_tells : Type 0) (vault_count : ℕ) (old : List ℕ → Option (List ℕ)) (out_tells : Type 0) (out_faults : Count) (before after : List ℕ) (status : ℕ)
+    → status ≡ 5 → SaysTranscript (Some name) tells faults file vault_tells (vault_count, vault_count) old out_tells before after → Runs (Some name) tells faults file vault_tells (vault_count, vault_count) old old out_tells out_faults before after status
 early_memory name tells faults file vt vf old ot outf before after status memory lines = record {
   played = λ e. absurd (omega (arith, e, memory));
   calm = λ e. absurd (omega (arith, e, memory));
@@ -69,12 +71,13 @@ early_memory name tells faults file vt vf old ot outf before after status memory
   no_other = inr (inr (inr (inr memory)));
   usage = λ e. named name e;
   files = λ told other. inl refl;
+  asked = inl (refl, λ told other. refl);
   lines = lines;
 }
 
 -- The session didn't start, for a cause of status 3 or 4.
-early_three : (name : List ℕ) (tells : Type 0) (faults : Count) (file : List ℕ → Option (List ℕ)) (vault_tells : Type 0) (vault_faults : Count) (old : List ℕ → Option (List ℕ)) (out_tells : Type 0) (out_faults : Count) (before after : List ℕ) (status : ℕ)
-    → status ≡ 3 → Stopped 3 (Some name) tells (Rises faults) file out_tells (Rises out_faults) before after → SaysTranscript (Some name) tells (Rises faults) file vault_tells vault_faults old out_tells before after → Runs (Some name) tells faults file vault_tells vault_faults old old out_tells out_faults before after status
+early_three : (name : List ℕ) (tells : Type 0) (faults : Count) (file : List ℕ → Option (List ℕ)) (vault_tells : Type 0) (vault_count : ℕ) (old : List ℕ → Option (List ℕ)) (out_tells : Type 0) (out_faults : Count) (before after : List ℕ) (status : ℕ)
+    → status ≡ 3 → Stopped 3 (Some name) tells faults file out_tells (Rises out_faults) before after → SaysTranscript (Some name) tells faults file vault_tells (vault_count, vault_count) old out_tells before after → Runs (Some name) tells faults file vault_tells (vault_count, vault_count) old old out_tells out_faults before after status
 early_three name tells faults file vt vf old ot outf before after status three h lines = record {
   played = λ e. absurd (omega (arith, e, three));
   calm = λ e. absurd (omega (arith, e, three));
@@ -84,11 +87,12 @@ early_three name tells faults file vt vf old ot outf before after status three h
   no_other = inr (inr (inl three));
   usage = λ e. named name e;
   files = λ told other. inl refl;
+  asked = inl (refl, λ told other. refl);
   lines = lines;
 }
 
-early_four : (name : List ℕ) (tells : Type 0) (faults : Count) (file : List ℕ → Option (List ℕ)) (vault_tells : Type 0) (vault_faults : Count) (old : List ℕ → Option (List ℕ)) (out_tells : Type 0) (out_faults : Count) (before after : List ℕ) (status : ℕ)
-    → status ≡ 4 → Stopped 4 (Some name) tells (Rises faults) file out_tells (Rises out_faults) before after → SaysTranscript (Some name) tells (Rises faults) file vault_tells vault_faults old out_tells before after → Runs (Some name) tells faults file vault_tells vault_faults old old out_tells out_faults before after status
+early_four : (name : List ℕ) (tells : Type 0) (faults : Count) (file : List ℕ → Option (List ℕ)) (vault_tells : Type 0) (vault_count : ℕ) (old : List ℕ → Option (List ℕ)) (out_tells : Type 0) (out_faults : Count) (before after : List ℕ) (status : ℕ)
+    → status ≡ 4 → Stopped 4 (Some name) tells faults file out_tells (Rises out_faults) before after → SaysTranscript (Some name) tells faults file vault_tells (vault_count, vault_count) old out_tells before after → Runs (Some name) tells faults file vault_tells (vault_count, vault_count) old old out_tells out_faults before after status
 early_four name tells faults file vt vf old ot outf before after status four h lines = record {
   played = λ e. absurd (omega (arith, e, four));
   calm = λ e. absurd (omega (arith, e, four));
@@ -98,13 +102,14 @@ early_four name tells faults file vt vf old ot outf before after status four h l
   no_other = inr (inr (inr (inl four)));
   usage = λ e. named name e;
   files = λ told other. inl refl;
+  asked = inl (refl, λ told other. refl);
   lines = lines;
 }
 
 -- The session didn't start: its status is that of its cause, or memory ran out.
-stopped_by : (name : List ℕ) (tells : Type 0) (faults : Count) (file : List ℕ → Option (List ℕ)) (vault_tells : Type 0) (vault_faults : Count) (old : List ℕ → Option (List ℕ)) (out_tells : Type 0) (out_faults : Count) (before after : List ℕ) (stop : Stop) (status : ℕ)
-    → StopHasCause tells file name (Rises faults) stop → (status ≡ 5) ⊎ ((status ≡ stop_status stop) × Puts out_tells (Rises out_faults) before after (stop_line stop)) → SaysTranscript (Some name) tells (Rises faults) file vault_tells vault_faults old out_tells before after
-    → Runs (Some name) tells faults file vault_tells vault_faults old old out_tells out_faults before after status
+stopped_by : (name : List ℕ) (tells : Type 0) (faults : Count) (file : List ℕ → Option (List ℕ)) (vault_tells : Type 0) (vault_count : ℕ) (old : List ℕ → Option (List ℕ)) (out_tells : Type 0) (out_faults : Count) (before after : List ℕ) (stop : Stop) (status : ℕ)
+    → StopHasCause tells file name faults stop → (status ≡ 5) ⊎ ((status ≡ stop_status stop) × Puts out_tells (Rises out_faults) before after (stop_line stop)) → SaysTranscript (Some name) tells faults file vault_tells (vault_count, vault_count) old out_tells before after
+    → Runs (Some name) tells faults file vault_tells (vault_count, vault_count) old old out_tells out_faults before after status
 stopped_by name tells faults file vt vf old ot outf before after stop status cause (inl memory) lines = early_memory name tells faults file vt vf old ot outf before after status memory lines
 stopped_by name tells faults file vt vf old ot outf before after (stops.Unfetched of fault) status cause (inr h) lines =
     early_four name tells faults file vt vf old ot outf before after status h.0 (record { of = name; named = refl; stop = stops.Unfetched of fault; cause = cause; status_is = refl; line = h.1 }) lines
@@ -115,9 +120,9 @@ stopped_by name tells faults file vt vf old ot outf before after (stops.FaultyCl
 stopped_by name tells faults file vt vf old ot outf before after stops.NoMemory status cause (inr h) lines = early_memory name tells faults file vt vf old ot outf before after status h.0 lines
 
 -- The session didn't start.
-pub run_stopped : (name : List ℕ) (tells : Type 0) (faults : Count) (file : List ℕ → Option (List ℕ)) (vault_tells : Type 0) (vault_faults : Count) (old : List ℕ → Option (List ℕ)) (out_tells : Type 0) (out_faults : Count) (before after : List ℕ) (stop : Stop) (status : ℕ)
-    → StopHasCause tells file name (Rises faults) stop → StopsWith out_tells (Rises out_faults) before after (stop_line stop) (stop_status stop) status
-    → Runs (Some name) tells faults file vault_tells vault_faults old old out_tells out_faults before after status
+pub run_stopped : (name : List ℕ) (tells : Type 0) (faults : Count) (file : List ℕ → Option (List ℕ)) (vault_tells : Type 0) (vault_count : ℕ) (old : List ℕ → Option (List ℕ)) (out_tells : Type 0) (out_faults : Count) (before after : List ℕ) (stop : Stop) (status : ℕ)
+    → StopHasCause tells file name faults stop → StopsWith out_tells (Rises out_faults) before after (stop_line stop) (stop_status stop) status
+    → Runs (Some name) tells faults file vault_tells (vault_count, vault_count) old old out_tells out_faults before after status
 run_stopped name tells faults file vt vf old ot outf before after stop status cause h =
     stopped_by name tells faults file vt vf old ot outf before after stop status cause h.ended (stop_line stop, inr (inl (name, refl, (stop, cause, refl))), h.said)
 
@@ -155,7 +160,7 @@ changes name tells file vt old new script bytes clip works inside own others tol
 pub run_played : (name : List ℕ) (tells : Type 0) (faults : Count) (file : List ℕ → Option (List ℕ)) (vault_tells : Type 0) (vault_faults : Count) (old new : List ℕ → Option (List ℕ)) (out_tells : Type 0) (out_faults : Count) (before after : List ℕ)
     (script : Form) (bytes : List ℕ) (clip : ClipIndex) (status : ℕ) → IsJob tells file name script bytes clip → IsCalm faults → Plays vault_tells vault_faults old new out_tells out_faults before after script bytes clip status
     → Runs (Some name) tells faults file vault_tells vault_faults old new out_tells out_faults before after status
-run_played name tells faults file vt vf old new ot outf before after script bytes clip status job fetched (inl (inside, h)) =
+run_played name tells faults file vt vf old new ot outf before after script bytes clip status job fetched (inl (inside, h, asked)) =
     let works : Works (Some name) tells file script bytes clip = record { of = name; named = refl; job = job } in
     record {
       played = λ e. (script, bytes, clip, works, inl (inside, (h.done e).0, (h.done e).1));
@@ -168,19 +173,21 @@ run_played name tells faults file vt vf old new ot outf before after script byte
       ];
       no_other = one_of status h.no_other;
       usage = λ e. named name e;
+      asked = elim asked [ inl untouched ↦ inl untouched | inr first ↦ inr (script, bytes, clip, works, inside, first) ];
       files = changes name tells file vt old new script bytes clip works inside h.file h.files;
       lines = (export_lines script.len h.said.0, inr (inr (script, bytes, clip, works, inl (inside, (h.said.0, h.said.1, refl)))), h.said.2);
     }
-run_played name tells faults file vt vf old new ot outf before after script bytes clip status job fetched (inr (outside, h, vault_calm, files)) =
+run_played name tells faults file vt vf old new ot outf before after script bytes clip status job fetched (inr (outside, h, untouched)) =
     let works : Works (Some name) tells file script bytes clip = record { of = name; named = refl; job = job } in
     record {
-      played = λ e. (script, bytes, clip, works, inr (outside, h.done e, files));
-      calm = λ e. (fetched, vault_calm, h.calm e);
+      played = λ e. (script, bytes, clip, works, inr (outside, h.done e, untouched.1));
+      calm = λ e. (fetched, untouched.0, h.calm e);
       misused = λ e. apart status 2 h.no_other (inl refl) e;
       faulty = λ e. apart status 3 h.no_other (inr refl) e;
       outside = λ e. inl (record { script = script; bytes = bytes; clip = clip; works = works; rose = h.failed e });
       no_other = one_of status h.no_other;
       usage = λ e. named name e;
-      files = λ told other. inl (files told other);
+      files = λ told other. inl (untouched.1 told other);
+      asked = inl untouched;
       lines = (refused_lines, inr (inr (script, bytes, clip, works, inr (outside, refl))), h.said);
     }

@@ -27,9 +27,16 @@ done_line frames = codes "export 1 done " ++ line (decimal frames)
 unfoldable pub sink_line : List ℕ
 sink_line = line (codes "export 1 sink")
 
--- the edit took a frame outside its clip, so the timeline is empty and nothing is exported
-unfoldable pub refused_lines : List ℕ
-refused_lines = line (codes "refused OutsideClip") ++ line (codes "refused EmptyTimeline")
+-- the edit took a frame outside its clip
+unfoldable pub refused_insert_line : List ℕ
+refused_insert_line = line (codes "refused OutsideClip")
+
+-- so the timeline is empty and nothing is exported
+unfoldable pub refused_export_line : List ℕ
+refused_export_line = line (codes "refused EmptyTimeline")
+
+abbrev pub refused_lines : List ℕ
+refused_lines = refused_insert_line ++ refused_export_line
 
 -- the script's line n, counted from 1, is faulty
 unfoldable pub fault_line : (n : ℕ) → List ℕ

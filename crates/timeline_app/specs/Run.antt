@@ -110,29 +110,29 @@ ReadsClip bytes (Err (stops.Faulty n)) = ⊥
 ReadsClip bytes (Err (stops.Unfetched name fault)) = ⊥
 
 -- The file of this name wasn't fetched, for a cause.
-abbrev pub IsUnfetchedStop : (tells : Type 0) (kept : Option (List ℕ)) (name : List ℕ) (limit : ℕ) (rose : Type 0) → Stop → Type 0
-IsUnfetchedStop tells kept name limit rose (stops.Unfetched of fault) = (string_bytes of ≡ name) × IsUnfetched tells kept limit rose fault
-IsUnfetchedStop tells kept name limit rose stops.NoMemory = Unit {0}
-IsUnfetchedStop tells kept name limit rose (stops.Faulty n) = ⊥
-IsUnfetchedStop tells kept name limit rose (stops.FaultyClip fault) = ⊥
+abbrev pub IsUnfetchedStop : (tells : Type 0) (kept : Option (List ℕ)) (name : List ℕ) (limit : ℕ) (faults : Count) → Stop → Type 0
+IsUnfetchedStop tells kept name limit faults (stops.Unfetched of fault) = (string_bytes of ≡ name) × IsUnfetched tells kept limit (Rises faults) fault
+IsUnfetchedStop tells kept name limit faults stops.NoMemory = IsCalm faults
+IsUnfetchedStop tells kept name limit faults (stops.Faulty n) = ⊥
+IsUnfetchedStop tells kept name limit faults (stops.FaultyClip fault) = ⊥
 
 -- The clip's file of this name wasn't fetched, or it was and has this fault.
-abbrev pub IsClipStop : (tells : Type 0) (kept : Option (List ℕ)) (name : List ℕ) (rose : Type 0) → Stop → Type 0
-IsClipStop tells kept name rose (stops.Unfetched of fault) = (string_bytes of ≡ name) × IsUnfetched tells kept clip_limit rose fault
-IsClipStop tells kept name rose (stops.FaultyClip fault) = (bytes : List ℕ) × IsFetched tells kept clip_limit bytes × (clip_of bytes ≡ Err fault)
-IsClipStop tells kept name rose stops.NoMemory = Unit {0}
-IsClipStop tells kept name rose (stops.Faulty n) = ⊥
+abbrev pub IsClipStop : (tells : Type 0) (kept : Option (List ℕ)) (name : List ℕ) (faults : Count) → Stop → Type 0
+IsClipStop tells kept name faults (stops.Unfetched of fault) = (string_bytes of ≡ name) × IsUnfetched tells kept clip_limit (Rises faults) fault
+IsClipStop tells kept name faults (stops.FaultyClip fault) = (bytes : List ℕ) × IsFetched tells kept clip_limit bytes × (clip_of bytes ≡ Err fault)
+IsClipStop tells kept name faults stops.NoMemory = IsCalm faults
+IsClipStop tells kept name faults (stops.Faulty n) = ⊥
 
 -- A session that doesn't start has its cause: the script or, where it is of the form, its clip wasn't fetched; the script was fetched and
--- isn't of the form; or it is, and the clip was fetched and has a fault.
-abbrev pub StopHasCause : (tells : Type 0) (file : List ℕ → Option (List ℕ)) (name : List ℕ) (rose : Type 0) → Stop → Type 0
-StopHasCause tells file name rose (stops.Unfetched of fault) =
-    ((string_bytes of ≡ name) × IsUnfetched tells (file name) script_limit rose fault)
-    ⊎ ((script : Form) × IsScript tells file name script × IsClipStop tells (file script.file) script.file rose (stops.Unfetched of fault))
-StopHasCause tells file name rose (stops.Faulty n) = (text : List ℕ) × IsFetched tells (file name) script_limit text × (script_of text ≡ Err n)
-StopHasCause tells file name rose (stops.FaultyClip fault) =
-    (script : Form) × IsScript tells file name script × IsClipStop tells (file script.file) script.file rose (stops.FaultyClip fault)
-StopHasCause tells file name rose stops.NoMemory = Unit {0}
+-- isn't of the form; or it is, and the clip was fetched and has a fault; or memory ran out, and the store had no fault.
+abbrev pub StopHasCause : (tells : Type 0) (file : List ℕ → Option (List ℕ)) (name : List ℕ) (faults : Count) → Stop → Type 0
+StopHasCause tells file name faults (stops.Unfetched of fault) =
+    ((string_bytes of ≡ name) × IsUnfetched tells (file name) script_limit (Rises faults) fault)
+    ⊎ ((script : Form) × IsScript tells file name script × IsClipStop tells (file script.file) script.file faults (stops.Unfetched of fault))
+StopHasCause tells file name faults (stops.Faulty n) = (text : List ℕ) × IsFetched tells (file name) script_limit text × (script_of text ≡ Err n)
+StopHasCause tells file name faults (stops.FaultyClip fault) =
+    (script : Form) × IsScript tells file name script × IsClipStop tells (file script.file) script.file faults (stops.FaultyClip fault)
+StopHasCause tells file name faults stops.NoMemory = IsCalm faults
 
 -- The line that says why a session doesn't start.
 abbrev pub stop_line : Stop → List ℕ
@@ -247,12 +247,21 @@ pub record PlaysRefusal (out_tells : Type 0) (out_faults : Count) (before after 
   pub no_other : (status ≡ 0) ⊎ ((status ≡ 4) ⊎ (status ≡ 5))
   pub said : PutsFront out_tells before after refused_lines
 
+-- The vault is as it was, and had no fault.
+abbrev pub IsUntouched : (tells : Type 0) (faults : Count) (old new : List ℕ → Option (List ℕ)) → Type 0
+IsUntouched tells faults old new = IsCalm faults × (tells → (name : List ℕ) → new name ≡ old name)
+
+-- A line was put, whole, and then others may have been.
+abbrev pub PutsFirst : (tells : Type 0) (before after line : List ℕ) → Type 0
+PutsFirst tells before after line = tells → (rest : List ℕ) × (after ≡ before ++ (line ++ rest))
+
 -- What playing a script did, by the status: its frames lie within the clip and it was exported, or they don't and it was refused.
 abbrev pub Plays : (vault_tells : Type 0) (vault_faults : Count) (old new : List ℕ → Option (List ℕ)) (out_tells : Type 0) (out_faults : Count) (before after : List ℕ)
     (script : Form) (bytes : List ℕ) (clip : ClipIndex) (status : ℕ) → Type 0
 Plays vault_tells vault_faults old new out_tells out_faults before after script bytes clip status =
-    (IsInside script clip × PlaysExport vault_tells vault_faults old new out_tells out_faults before after (export_lines script.len) script bytes clip status)
-    ⊎ ((length clip.packets < script.len) × PlaysRefusal out_tells out_faults before after status × IsCalm vault_faults × (vault_tells → (name : List ℕ) → new name ≡ old name))
+    (IsInside script clip × PlaysExport vault_tells vault_faults old new out_tells out_faults before after (export_lines script.len) script bytes clip status
+    × (IsUntouched vault_tells vault_faults old new ⊎ PutsFirst out_tells before after (ok_line script.len)))
+    ⊎ ((length clip.packets < script.len) × PlaysRefusal out_tells out_faults before after status × IsUntouched vault_tells vault_faults old new)
 
 -- A text was put, whole, or some front of it where the count rose.
 abbrev pub Puts : (tells rose : Type 0) (before after text : List ℕ) → Type 0

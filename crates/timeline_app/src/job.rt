@@ -1,7 +1,6 @@
 //! Fetching the script and its clip.
 
 ghost use Rattle.std.specs.Prelude.{◌≡◌, ◌≤◌, ℕ, List, IfOk, IfErr, OnOk, Ok, string_bytes, length};
-ghost use Rattle.tl_ports.specs.Outside.{Rose};
 ghost use Rattle.timeline_app.specs.Reading.{view};
 ghost use Rattle.timeline_app.specs.Run.{clip_limit, IsFetched, IsJob, IsScript, IsUnfetchedStop, IsClipStop, StopHasCause, ReadsScript, ReadsClip, IsSound};
 ghost use Rattle.mkv_read.specs.Clip.{clip_of};
@@ -31,16 +30,18 @@ pub struct Job {
 fn fetch<T: Store>(alloc: Global, store: &mut T, name: &str, limit: u64) -> Result<Vec<u8>, Stop>
     ensures fetched { IfOk result (λ bytes. IsFetched T.tells (T.file store.old name.now) limit bytes.items) }
     ensures calm { OnOk result (T.faults store.new ≡ T.faults store.old) }
-    ensures stop { IfErr result (IsUnfetchedStop T.tells (T.file store.old name.now) name.now limit (Rose (T.faults store.old) (T.faults store.new))) }
+    ensures stop { IfErr result (IsUnfetchedStop T.tells (T.file store.old name.now) name.now limit (T.faults store.old, T.faults store.new)) }
     ensures files { (other : List ℕ) → T.file store.new other ≡ T.file store.old other }
     ensures later { T.faults store.old ≤ T.faults store.new }
 {
+    // The name for the line that a refusal needs: once the fetch has failed, nothing may be wanting.
+    let name_copy = String::from_str(alloc, name)?;
     let mut bytes = Vec::new(alloc);
     match store.fetch(name, limit, &mut bytes) {
         Ok(()) => Ok(bytes),
         Err(FetchFault::NoMemory) => Err(Stop::NoMemory),
         Err(fault) => Err(Stop::Unfetched {
-            name: String::from_str(alloc, name)?,
+            name: name_copy,
             fault,
         }),
     }
@@ -74,7 +75,7 @@ fn index_of(alloc: Global, bytes: &[u8]) -> Result<ClipIndex, Stop>
 fn fetch_script<T: Store>(alloc: Global, store: &mut T, name: &str) -> Result<Script, Stop>
     ensures script { IfOk result (λ script. IsScript T.tells (T.file store.old) name.now (view script)) }
     ensures calm { OnOk result (T.faults store.new ≡ T.faults store.old) }
-    ensures stop { IfErr result (StopHasCause T.tells (T.file store.old) name.now (Rose (T.faults store.old) (T.faults store.new))) }
+    ensures stop { IfErr result (StopHasCause T.tells (T.file store.old) name.now (T.faults store.old, T.faults store.new)) }
     ensures files { (other : List ℕ) → T.file store.new other ≡ T.file store.old other }
     ensures later { T.faults store.old ≤ T.faults store.new }
 {
@@ -94,7 +95,7 @@ fn fetch_clip<T: Store>(
     ensures calm { OnOk result (T.faults store.new ≡ T.faults store.old) }
     ensures holds { IfOk result (λ clip. clip_of clip.0.items ≡ Ok clip.1) }
     ensures within { IfOk result (λ clip. IsSound clip.0.items clip.1) }
-    ensures stop { IfErr result (IsClipStop T.tells (T.file store.old file.now) file.now (Rose (T.faults store.old) (T.faults store.new))) }
+    ensures stop { IfErr result (IsClipStop T.tells (T.file store.old file.now) file.now (T.faults store.old, T.faults store.new)) }
     ensures files { (other : List ℕ) → T.file store.new other ≡ T.file store.old other }
     ensures later { T.faults store.old ≤ T.faults store.new }
 {
@@ -111,7 +112,7 @@ fn fetch_clip<T: Store>(
 pub fn fetch_job<T: Store>(alloc: Global, store: &mut T, name: &str) -> Result<Job, Stop>
     ensures job { IfOk result (λ job. IsJob T.tells (T.file store.old) name.now (view job.script) job.bytes.items job.index) }
     ensures calm { OnOk result (T.faults store.new ≡ T.faults store.old) }
-    ensures stop { IfErr result (StopHasCause T.tells (T.file store.old) name.now (Rose (T.faults store.old) (T.faults store.new))) }
+    ensures stop { IfErr result (StopHasCause T.tells (T.file store.old) name.now (T.faults store.old, T.faults store.new)) }
     ensures within { IfOk result (λ job. IsSound job.bytes.items job.index) }
     ensures files { (other : List ℕ) → T.file store.new other ≡ T.file store.old other }
     ensures later { T.faults store.old ≤ T.faults store.new }

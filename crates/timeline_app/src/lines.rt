@@ -1,7 +1,7 @@
 //! The lines that the program puts out.
 
-ghost use Rattle.std.specs.Prelude.{◌≡◌, IfOk, string_bytes, ◌++◌};
-ghost use Rattle.timeline_app.specs.Lines.{ok_line, done_line, fault_line, store_line, usage_line, asked_line, sink_line, refused_lines, clip_fault_line, clip_kind_of, kind_of, memory_line, export_memory_line};
+ghost use Rattle.std.specs.Prelude.{◌≡◌, IfOk, string_bytes};
+ghost use Rattle.timeline_app.specs.Lines.{ok_line, done_line, fault_line, store_line, usage_line, asked_line, sink_line, refused_insert_line, refused_export_line, clip_fault_line, clip_kind_of, kind_of, memory_line, export_memory_line};
 
 use mkv_read::ClipFault;
 use std::alloc::{AllocError, Global};
@@ -56,11 +56,18 @@ pub fn usage_line() -> &'static str
     USAGE
 }
 
-#[tactic(auto, unfolding(crate::specs::Lines::refused_lines))]
-pub fn refused_lines() -> (&'static str, &'static str)
-    ensures { result.0.now ++ result.1.now ≡ refused_lines }
+#[tactic(auto, unfolding(crate::specs::Lines::refused_insert_line))]
+pub fn refused_insert_line() -> &'static str
+    ensures { result.now ≡ refused_insert_line }
 {
-    ("refused OutsideClip\n", "refused EmptyTimeline\n")
+    "refused OutsideClip\n"
+}
+
+#[tactic(auto, unfolding(crate::specs::Lines::refused_export_line))]
+pub fn refused_export_line() -> &'static str
+    ensures { result.now ≡ refused_export_line }
+{
+    "refused EmptyTimeline\n"
 }
 
 #[tactic(auto, unfolding(crate::specs::Lines::asked_line))]

@@ -1,8 +1,9 @@
 //! Playing a script of the form: the insert, and the export or its refusal.
 
-ghost use Rattle.std.specs.Prelude.{◌≡◌, ◌≤◌, None};
+ghost use Rattle.std.specs.Prelude.{◌≡◌, ◌⊎◌, ◌≤◌, None};
+ghost use Rattle.timeline_app.specs.Lines.{ok_line};
 ghost use Rattle.timeline_app.specs.Reading.{view};
-ghost use Rattle.timeline_app.specs.Run.{IsInside, IsSound, Plays, PlaysExport, PlaysRefusal, asked_lines, export_lines, fault_status, ending_status};
+ghost use Rattle.timeline_app.specs.Run.{IsUntouched, PutsFirst, IsInside, IsSound, Plays, PlaysExport, PlaysRefusal, asked_lines, export_lines, fault_status, ending_status};
 
 use crate::export::{Ending, export};
 use crate::job::Job;
@@ -58,6 +59,8 @@ fn play_export<V: Vault, O: Sink>(alloc: Global, job: &Job, vault: &mut V, out: 
     requires sound { IsSound job.now.bytes.items job.now.index }
     requires inside { IsInside (view job.now.script) job.now.index }
     ensures plays { PlaysExport V.tells (V.faults vault.old, V.faults vault.new) (V.file vault.old) (V.file vault.new) O.tells (O.faults out.old, O.faults out.new) (O.contents out.old) (O.contents out.new) (export_lines job.now.script.len) (view job.now.script) job.now.bytes.items job.now.index result }
+    ensures asked { IsUntouched V.tells (V.faults vault.old, V.faults vault.new) (V.file vault.old) (V.file vault.new)
+        ⊎ PutsFirst O.tells (O.contents out.old) (O.contents out.new) (ok_line job.now.script.len) }
     ensures idle { V.begun vault.new ≡ None }
 {
     match say_made(out, ok_line(alloc, job.script.len)) {

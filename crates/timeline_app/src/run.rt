@@ -4,7 +4,7 @@ ghost use Rattle.std.specs.Prelude.{◌≡◌, ◌⊎◌, ◌==◌, ℕ, List, S
 ghost use Rattle.tl_ports.specs.Outside.{Rose};
 ghost use Rattle.timeline_app.specs.Lines.{usage_line};
 ghost use Rattle.timeline_app.specs.Run.{script_name, Says, Puts, StopsWith, stop_line, stop_status, status_after};
-ghost use Rattle.timeline_app.specs.Top.{Runs, Works, Played, Stopped, Unsaid, Unsunk, ChangesOnlyExport, SaysTranscript, IsFaulty};
+ghost use Rattle.timeline_app.specs.Top.{Runs, Works, Played, Stopped, Unsaid, Unsunk, ChangesOnlyExport, ExportsWhenAsked, SaysTranscript, IsFaulty};
 ghost use Rattle.mkv_read.specs.declared.clip.ClipIndex.{ClipIndex};
 ghost use Rattle.timeline_app.specs.Script.{Form};
 
@@ -165,7 +165,7 @@ pub fn run_alone<T: Store, V: Vault, S: Sink, O: Sink>(
 
     // 3: exactly where the script was fetched and isn't of the form, or it is and the clip was fetched and has a fault,
     // unless memory ran out.
-    ensures faulty { result.status ≡ 3 → Stopped 3 (script_name (map string_bytes words.now)) T.tells (Rose (T.faults store.old) (T.faults store.new)) (T.file store.old)
+    ensures faulty { result.status ≡ 3 → Stopped 3 (script_name (map string_bytes words.now)) T.tells (T.faults store.old, T.faults store.new) (T.file store.old)
         O.tells (Rose (O.faults out.old) (O.faults out.new)) (O.contents out.old) (O.contents out.new) }
 
     ensures faulty_only { (name : List ℕ) → script_name (map string_bytes words.now) ≡ Some name → T.tells → (Rose (T.faults store.old) (T.faults store.new) → ⊥)
@@ -173,7 +173,7 @@ pub fn run_alone<T: Store, V: Vault, S: Sink, O: Sink>(
 
     // 4: a count rose, or the told store lacks a file or holds more of it than its limit.
     ensures outside { result.status ≡ 4 → Unsaid (script_name (map string_bytes words.now)) T.tells (T.file store.old) (Rose (O.faults out.old) (O.faults out.new))
-        ⊎ (Stopped 4 (script_name (map string_bytes words.now)) T.tells (Rose (T.faults store.old) (T.faults store.new)) (T.file store.old) O.tells (Rose (O.faults out.old) (O.faults out.new)) (O.contents out.old) (O.contents out.new)
+        ⊎ (Stopped 4 (script_name (map string_bytes words.now)) T.tells (T.faults store.old, T.faults store.new) (T.file store.old) O.tells (Rose (O.faults out.old) (O.faults out.new)) (O.contents out.old) (O.contents out.new)
         ⊎ Unsunk (script_name (map string_bytes words.now)) T.tells (T.file store.old) (Rose (V.faults vault.old) (V.faults vault.new)) O.tells (O.contents out.old) (O.contents out.new)) }
 
     // 5: want of memory. There is no other status.
@@ -181,7 +181,8 @@ pub fn run_alone<T: Store, V: Vault, S: Sink, O: Sink>(
 
     // Whatever the status: what else changed.
     ensures files { ChangesOnlyExport (script_name (map string_bytes words.now)) T.tells (T.file store.old) V.tells (V.file vault.old) (V.file vault.new) }
-    ensures lines { SaysTranscript (script_name (map string_bytes words.now)) T.tells (Rose (T.faults store.old) (T.faults store.new)) (T.file store.old) V.tells (V.faults vault.old, V.faults vault.new) (V.file vault.new) O.tells (O.contents out.old) (O.contents out.new) }
+    ensures asked { ExportsWhenAsked (script_name (map string_bytes words.now)) T.tells (T.file store.old) V.tells (V.faults vault.old, V.faults vault.new) (V.file vault.old) (V.file vault.new) O.tells (O.contents out.old) (O.contents out.new) }
+    ensures lines { SaysTranscript (script_name (map string_bytes words.now)) T.tells (T.faults store.old, T.faults store.new) (T.file store.old) V.tells (V.faults vault.old, V.faults vault.new) (V.file vault.new) O.tells (O.contents out.old) (O.contents out.new) }
     ensures idle { V.begun vault.new ≡ None }
     ensures store { (other : List ℕ) → T.file store.new other ≡ T.file store.old other }
     ensures screen { screen.new ≡ screen.old }

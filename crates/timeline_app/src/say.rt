@@ -5,7 +5,9 @@ ghost use Rattle.timeline_app.specs.Lines.{refused_lines};
 ghost use Rattle.timeline_app.specs.Run.{Says, ending_line};
 
 use crate::export::Ending;
-use crate::lines::{asked_line, done_line, export_memory_line, refused_lines, sink_line};
+use crate::lines::{
+    asked_line, done_line, export_memory_line, refused_export_line, refused_insert_line, sink_line,
+};
 use std::alloc::{AllocError, Global};
 use tl_ports::{PutFault, Sink};
 
@@ -49,9 +51,8 @@ pub fn say_refused<O: Sink>(out: &mut O) -> Result<(), PutFault>
     ensures said { Says O.tells (O.contents out.old) (O.contents out.new) refused_lines (O.faults out.old, O.faults out.new) result }
     ensures later { O.faults out.old ≤ O.faults out.new }
 {
-    let (insert, export) = refused_lines();
-    match say(out, insert) {
-        Ok(()) => say(out, export),
+    match say(out, refused_insert_line()) {
+        Ok(()) => say(out, refused_export_line()),
         Err(fault) => Err(fault),
     }
 }

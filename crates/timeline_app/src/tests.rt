@@ -88,7 +88,7 @@ struct Case {
 
 const THREE: &[u8] = b"rate 25\nclip A a.mkv\nformat as A\ninsert 0 A 0 3\nexport o.mkv\n";
 
-const CASES: [Case; 14] = [
+const CASES: [Case; 17] = [
     Case {
         script: THREE,
         frames: 3,
@@ -180,6 +180,39 @@ const CASES: [Case; 14] = [
         // Half of `asked 1` and its line end; the export that was asked for is made all the same.
         lines: "ok 3\naske",
         exported: Some(261 + 7),
+    },
+    Case {
+        script: THREE,
+        frames: 3,
+        store: &[],
+        vault: &[],
+        out: &[1],
+        status: 4,
+        // Half of `ok 3` and its line end; nothing was asked for.
+        lines: "ok",
+        exported: None,
+    },
+    Case {
+        script: THREE,
+        frames: 3,
+        store: &[],
+        vault: &[],
+        out: &[3],
+        status: 4,
+        // Half of `export 1 done 3` and its line end.
+        lines: "ok 3\nasked 1\nexport 1",
+        exported: Some(261 + 7),
+    },
+    Case {
+        script: b"rate 25\nclip A a.mkv\nformat as A\ninsert 0 A 0 4\nexport o.mkv\n",
+        frames: 3,
+        store: &[],
+        vault: &[],
+        out: &[2],
+        status: 4,
+        // Half of `refused EmptyTimeline` and its line end.
+        lines: "refused OutsideClip\nrefused Emp",
+        exported: None,
     },
     Case {
         script: THREE,

@@ -61,6 +61,9 @@ kind_of (Ok frame) = Ok frame
 kind_of (Err fault) = Err fault.kind
 
 pub record IsLibrary {F : Type 0} (lib : Library F) : Type 0 where
+  pub black : IsOk (lib.render recipe.Black)
+  -- the fault of a frame names the frame
+  pub placed : (clip frame : ℕ) (fault : RenderFault) → CanRender lib (recipe.Source clip frame) → lib.render (recipe.Source clip frame) ≡ Err fault → (fault.clip ≡ clip) × (fault.frame ≡ frame)
   pub shaped : (recipe : Recipe) (frame : F) → CanRender lib recipe → lib.render recipe ≡ Ok frame → IsTrue (lib.has_shape frame)
   pub mixed : (from to : Side) (weight : ℕ) → CanRender lib (recipe.Mix from to weight) → MixFaults (lib.render (alone from)) (lib.render (alone to)) (lib.render (recipe.Mix from to weight))
   pub read_back : (frame : F) (packet : List ℕ) → IsTrue (lib.has_shape frame) → lib.coded frame ≡ Some packet → lib.unpacked packet ≡ Ok frame

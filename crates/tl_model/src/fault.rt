@@ -23,7 +23,7 @@ pub enum FrameFault {
     Overrun { slice: u32 },
 }
 
-/// The frame that couldn't be rendered, and why.
+/// The frame that couldn't be rendered, and why. Clips and frames are counted from 0.
 #[derive(Clone, Copy, Debug, PartialEq, Eq)]
 pub struct RenderFault {
     pub clip: u32,

@@ -6,16 +6,24 @@ use crate::edit::Edit;
 use std::alloc::{AllocError, Global};
 use std::marker::Model;
 
-/// What a call did.
+/// What a call did. Frames are counted from 0, jobs from 1.
 #[derive(Debug, Drop, PartialEq, Eq)]
 pub enum Act {
+    /// An edit, made or refused.
     Edit(Edit),
+    /// `len` frames from `first` on were wanted.
     Want { first: u32, len: u32 },
+    /// The wanted ones of `len` frames from `first` on were cancelled.
     Cancel { first: u32, len: u32 },
+    /// The lowest queued job was taken.
     Claim,
+    /// A job was ended with its result.
     File { job: u64 },
+    /// A job was given back.
     Release { job: u64 },
+    /// Frame `n` was played.
     Play { n: u32 },
+    /// The session was stopped.
     Stop,
 }
 

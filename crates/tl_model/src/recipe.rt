@@ -12,6 +12,7 @@ pub enum Side {
 }
 
 impl Side {
+    /// Whether both are the same, as a comparison that clauses can name.
     pub fn is(self, other: Side) -> bool
         ensures { result ≡ same_side self other }
     {
@@ -30,6 +31,7 @@ pub enum Recipe {
 }
 
 impl Recipe {
+    /// Whether both are the same, as a comparison that clauses can name.
     pub fn is(self, other: Recipe) -> bool
         ensures { result ≡ same_recipe self other }
     {

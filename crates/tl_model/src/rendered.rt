@@ -29,6 +29,7 @@ impl<M: Media> Model for Rendered<M> {
 }
 
 impl<M: Media> Rendered<M> {
+    /// Renders a recipe.
     pub fn make(alloc: Global, media: &M, recipe: Recipe) -> Result<Rendered<M>, AllocError>
         requires { CanRender (M.library media.now) recipe }
         ensures { IfOk result (λ r. r ≡ record { recipe = recipe; library = media.now }) }

@@ -1,4 +1,4 @@
-use Rattle.std.proofs.Common.{subst, List, ℕ}
+use Rattle.std.proofs.Common.{subst}
 use Rattle.ffv1_range.specs.Transition.{IsTransition}
 use Rattle.ffv1_record.proofs.Round.{record_again}
 use Rattle.ffv1_record.proofs.law.record_reads_back.Goals as goal

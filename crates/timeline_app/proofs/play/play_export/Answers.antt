@@ -1,4 +1,4 @@
-use Rattle.std.proofs.Common.{ℕ, refl, inl}
+use Rattle.std.proofs.Common.{ℕ, List, ◌++◌, take, refl, inl, inr, ap, ◌∙◌, append_assoc}
 use Rattle.timeline_app.specs.Reading.{view}
 use Rattle.timeline_app.specs.Lines.{ok_line}
 use Rattle.timeline_app.specs.Run.{asked_lines, export_lines}
@@ -34,3 +34,17 @@ returns-in-Err-clause-plays g c =
     (export_stopped V.tells (V.faults c.args.vault.now, V.faults c.args.vault.now) file file O.tells faults (O.contents old) (O.contents new)
     (export_lines job.script.len) (view job.script) job.bytes.items job.index (export_lines job.script.len endings.NoMemory) endings.NoMemory fault both (λ told. inl refl) (λ told other ne. refl)
     (inl refl) (refused_front O.tells (O.contents old) (O.contents new) (export_lines job.script.len endings.NoMemory) faults fault both))
+
+pub returns-in-Ok-clause-asked : goal.returns-in-Ok-clause-asked
+returns-in-Ok-clause-asked g c =
+    let O = g.O.Sink in
+    let len = c.args.job.now.script.len in
+    let said = c.in-Ok.ensures.said (ok_line len) c.ok_line.ensures in
+    let plays = c.play_asked.ensures.plays in
+    let lines : List ℕ = asked_lines plays.said.0 in
+    inr (λ told.
+    let front = plays.said.2 told in
+    (take front.0 lines, front.1 ∙ ap (λ (x : List ℕ). x ++ take front.0 lines) (said.0 told) ∙ append_assoc (O.contents c.args.out.now) (ok_line len) (take front.0 lines)))
+
+pub returns-in-Err-clause-asked : goal.returns-in-Err-clause-asked
+returns-in-Err-clause-asked g c = inl (refl, λ told other. refl)

@@ -17,6 +17,6 @@ returns-in-Err-clause-runs g c =
     let T = g.T.Store in
     let V = g.V.Vault in
     let O = g.O.Sink in
-    run_stopped c.args.name.now T.tells (T.faults c.args.store.now, T.faults c.fetch_job.new.store) (T.file c.args.store.now) V.tells (V.faults c.args.vault.now, V.faults c.args.vault.now)
+    run_stopped c.args.name.now T.tells (T.faults c.args.store.now, T.faults c.fetch_job.new.store) (T.file c.args.store.now) V.tells (V.faults c.args.vault.now)
     (V.file c.args.vault.now) O.tells (O.faults c.args.out.now, O.faults c.end_early.new.out) (O.contents c.args.out.now) (O.contents c.end_early.new.out)
     c.in-Err.stop c.end_early.result c.in-Err.ensures.stop c.end_early.ensures

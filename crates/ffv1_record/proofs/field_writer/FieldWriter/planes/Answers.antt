@@ -1,7 +1,6 @@
-use Rattle.std.proofs.Common.{◌≡◌, ◌-◌, cond, ap, ◌∙◌, true, false}
-use Rattle.ffv1_record.specs.Spelling.{number, flag, chroma, transition, coding, planes, grid, ending, flags}
-use Rattle.ffv1_record.specs.Sink.{wrote}
-use Rattle.ffv1_record.proofs.Sinks.{in_turn_3, in_turn_4}
+use Rattle.std.proofs.Common.{false}
+use Rattle.ffv1_record.specs.Spelling.{number, flag, chroma, planes}
+use Rattle.ffv1_record.proofs.Sinks.{in_turn_4}
 use Rattle.ffv1_record.proofs.field_writer.FieldWriter.planes.Goals as goal
 
 pub returns : goal.returns

@@ -1,6 +1,6 @@
-use Rattle.std.proofs.Common.{◌≡◌, ◌-◌, drop, map}
-use Rattle.ffv1_record.specs.Spelling.{deltas, runs, flags}
-use Rattle.ffv1_record.specs.Sink.{wrote, wrote_tables, wrote_sets}
+use Rattle.std.proofs.Common.{◌≡◌, drop}
+use Rattle.ffv1_record.specs.Spelling.{runs}
+use Rattle.ffv1_record.specs.Sink.{wrote}
 use Rattle.ffv1_record.proofs.field_writer.FieldWriter.runs.Given as goal
 
 abbrev pub invariant-loop-run : goal.invariant-loop-run

@@ -1,6 +1,5 @@
-use Rattle.std.proofs.Common.{◌≡◌, ◌-◌, drop, map}
-use Rattle.ffv1_record.specs.Spelling.{deltas, runs, flags}
-use Rattle.ffv1_record.specs.Sink.{wrote, wrote_tables, wrote_sets}
+use Rattle.std.proofs.Common.{◌≡◌, drop}
+use Rattle.ffv1_record.specs.Sink.{wrote_sets}
 use Rattle.ffv1_record.proofs.field_writer.FieldWriter.sets.Given as goal
 
 abbrev pub invariant-loop-set : goal.invariant-loop-set

@@ -1,7 +1,7 @@
-use Rattle.std.proofs.Common.{◌≡◌, ◌-◌, cond, ap, ◌∙◌, true, false}
-use Rattle.ffv1_record.specs.Spelling.{number, flag, chroma, transition, coding, planes, grid, ending, flags}
+use Rattle.std.proofs.Common.{ap, ◌∙◌}
+use Rattle.ffv1_record.specs.Spelling.{number, flag}
 use Rattle.ffv1_record.specs.Sink.{wrote}
-use Rattle.ffv1_record.proofs.Sinks.{in_turn_3, in_turn_4}
+use Rattle.ffv1_record.proofs.Sinks.{in_turn_3}
 use Rattle.ffv1_record.proofs.field_writer.FieldWriter.shifts.Goals as goal
 
 pub returns : goal.returns

@@ -18,7 +18,7 @@ invariant_of-self-2 g c =
     let owes = owed-claimed c.args.by place m.state found in
     let turn = c.claim-claim.ensures.state ∙ ap (λ (o : Option ℕ). in_state (claimed c.args.by o m.state) m) (sym found) in
     let items = c.push_reserved.ensures.items ∙ ap (λ (es : List Entry). es ++ record { pass = c.args.by; act = act.Claim } ∷ []) c.room_for.ensures.items in
-    let room = c.in-Ok.ensures.room in
+    let room = c.in_ok-room_for.ensures.room in
     grown g.M.Media.library m c.claim-claim.new.self (length c.self.inside.journal.items + 1) c.args.by act.Claim c.self.inside.journal.items c.push_reserved.new.self.items c.self.inside.limit c.self.inside.owed (vec_capacity c.self.inside.journal) (c.self.inside.owed + 1) (vec_capacity c.push_reserved.new.self)
     c.self.invariant (sym c.is_stopped.ensures ∙ c.if-is_stopped.false, some_of _ place found) refl turn items (omega (arith, owes, c.self.invariant.owes)) (omega (arith, room.0)) (omega (arith, room.1, c.push_reserved.ensures.capacity))
 

@@ -21,20 +21,20 @@ invariant_of-self g c = record {
 pub returns-in-Some : goal.returns-in-Some
 returns-in-Some g c =
     let idx = ap (λ (cl : ClaimOf). cl.job - 1) c.claim.view_is in
-    let held = held_inside _ c.args.self.now (c.claim.inside.job - 1) (c.args.claim.job - 1) _ c.self.view_is idx c.requires.held.is_job in
+    let held = held_inside _ c.args.self.now (c.claim.inside.job - 1) (c.args.claim.job - 1) _ c.self.view_is idx c.requires.held.1.is_job in
     let item = read_is c.self.inside.jobs.items (c.claim.inside.job - 1) c.index.result.now (slice_get_within c.self.inside.jobs.items (c.claim.inside.job - 1) _ held) c.index.ensures in
     ends_closed _ c.args.self.now c.args.at (c.claim.inside.job - 1) (c.args.claim.job - 1) c.let_go.new.jobs.items c.index.result.now c.in-Some.closed c.self.view_is idx item c.in-Some.is c.let_go.ensures.jobs
 
 pub end-requires : goal.end-requires
 end-requires g c =
     let idx = ap (λ (cl : ClaimOf). cl.job - 1) c.claim.view_is in
-    let held = held_inside _ c.args.self.now (c.claim.inside.job - 1) (c.args.claim.job - 1) _ c.self.view_is idx c.requires.held.is_job in
+    let held = held_inside _ c.args.self.now (c.claim.inside.job - 1) (c.args.claim.job - 1) _ c.self.view_is idx c.requires.held.1.is_job in
     slice_get_within c.self.inside.jobs.items (c.claim.inside.job - 1) _ held
 
 pub invariant_of-self-2 : goal.invariant_of-self-2
 invariant_of-self-2 g c =
     let idx = ap (λ (cl : ClaimOf). cl.job - 1) c.claim.view_is in
-    let held = held_inside _ c.args.self.now (c.claim.inside.job - 1) (c.args.claim.job - 1) _ c.self.view_is idx c.requires.held.is_job in
+    let held = held_inside _ c.args.self.now (c.claim.inside.job - 1) (c.args.claim.job - 1) _ c.self.view_is idx c.requires.held.1.is_job in
     let library = ap (λ (r : RenderedOf _). r.library) c.requires.rendered ∙ sym (ap (λ (m : MachineOf _). m.library) c.self.view_is) in
     record {
       sound = c.self.invariant.sound;
@@ -46,7 +46,7 @@ invariant_of-self-2 g c =
 pub returns : goal.returns
 returns g c =
     let idx = ap (λ (cl : ClaimOf). cl.job - 1) c.claim.view_is in
-    let held = held_inside _ c.args.self.now (c.claim.inside.job - 1) (c.args.claim.job - 1) _ c.self.view_is idx c.requires.held.is_job in
+    let held = held_inside _ c.args.self.now (c.claim.inside.job - 1) (c.args.claim.job - 1) _ c.self.view_is idx c.requires.held.1.is_job in
     let item = read_is c.self.inside.jobs.items (c.claim.inside.job - 1) c.index.result.now (slice_get_within c.self.inside.jobs.items (c.claim.inside.job - 1) _ held) c.index.ensures in
     let recipe = ap (λ (r : RenderedOf _). r.recipe) c.requires.rendered ∙ sym (ap (λ (j : Job). j.recipe) (same_Some c.index.result.now _ (sym item ∙ held))) in
     let results = c.truncate.ensures.items ∙ ap (take c.self.inside.cache) c.in_default-insert.ensures.items in

@@ -33,9 +33,9 @@ returns-clause-turn g c =
     let same = same_Some c.index.result.now c.remove-rendered.result (sym item2 ∙ item) in
     let inserted = rw c.unwrap.ensures at c.insert.ensures.items in
     let library = AreOf-at c.self.inside.library.value filed place c.remove-rendered.result c.self.invariant.results_are item in
-    plays g.M.Media.library _ c.args.self.now c.args.n place c.recipe_in-recipe.result filed c.insert.new.self.items c.remove-rendered.result (of_play c.in-Ok.given) c.self.view_is refl c.recipe_in-recipe.ensures p item library
+    plays g.M.Media.library _ c.args.self.now c.args.n place c.recipe_in-recipe.result filed c.insert.new.self.items c.remove-rendered.result (of_play c.in_ok-given.given) c.self.view_is refl c.recipe_in-recipe.ensures p item library
     (inserted ∙ ap (λ (rs : List (RenderedOf _)). c.remove-rendered.result ∷ rs) c.remove-rendered.ensures.items)
-    (c.in-Ok.ensures ∙ ap (λ (x : RenderedOf _). picture_of ((g.M.Media.library x.library).render x.recipe)) same)
+    (c.in_ok-given.ensures ∙ ap (λ (x : RenderedOf _). picture_of ((g.M.Media.library x.library).render x.recipe)) same)
 
 pub returns-in_default-clause-renders : goal.returns-in_default-clause-renders
 returns-in_default-clause-renders g c =
