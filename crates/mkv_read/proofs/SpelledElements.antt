@@ -14,7 +14,7 @@ use Rattle.ebml_core.proofs.Walks.{walk-step}
 use Rattle.mkv_elements.specs.declared.TheConstants.{CLUSTER, TOP_LEVEL}
 use Rattle.mkv_read.specs.Elements.{content_of, ended, ended_in, next_at, elements, first_where}
 use Rattle.mkv_read.specs.Spelled.{size_told, IsSpelled, FollowOn}
-use Rattle.mkv_read.proofs.Listing.{elements-step}
+use Rattle.mkv_read.proofs.Listing.{ended_some, elements-step}
 use Rattle.mkv_read.proofs.PlainElements.{behind_piece}
 use Rattle.mkv_read.proofs.SpelledHeaders.{Heads, element_at-heads}
 
@@ -79,11 +79,6 @@ header_between bytes place end ids sizes rest content front is =
     let all : drop place bytes ≡ (ids ++ sizes) ++ (rest ++ drop (end - place) (drop place bytes)) = sym (take-append-drop (end - place) (drop place bytes)) ∙ ap (λ (x : List ℕ). x ++ drop (end - place) (drop place bytes)) (front ∙ sym (append_assoc ids sizes rest)) ∙ append_assoc (ids ++ sizes) rest _ in
     let many : length (ids ++ sizes) ≡ content - place = length-append ids sizes ∙ omega (arith, is) in
     ap (take (content - place)) all ∙ take_at (ids ++ sizes) _ (content - place) many
-
-pub ended_some : (bytes : List ℕ) (r : Result (Option Element) EbmlFault) (e : Element) → ended_in bytes r ≡ Ok (Some e) → (d : Element) × (r ≡ Ok (Some d)) × (ended bytes d ≡ e)
-ended_some bytes (Ok None) e h = absurd cc
-ended_some bytes (Ok (Some d)) e h = (d, refl, cc)
-ended_some bytes (Err fault) e h = absurd cc
 
 heads-stand : (bytes : List ℕ) (place end : ℕ) (d e : Element) → place ≤ end → end ≤ length bytes → Heads place (between bytes place end) d → e.id ≡ d.id → e.start ≡ d.start → e.content ≡ d.content → size_told d ≡ size_told e → d.content ≤ e.end → e.end ≤ d.end → Stands bytes place end e
 heads-stand bytes place end d e order long h id start content size after before =
