@@ -12,7 +12,7 @@ use Rattle.ebml_core.proofs.Endings.{end_before-above}
 use Rattle.mkv_elements.specs.declared.TheConstants.{CLUSTER, TOP_LEVEL}
 use Rattle.mkv_read.specs.Elements.{content_of, ended, ended_in, next_at, elements_upto, elements, first_where}
 
-ended_some : (bytes : List ℕ) (r : Result (Option Element) EbmlFault) (e : Element) → ended_in bytes r ≡ Ok (Some e) → (d : Element) × (r ≡ Ok (Some d)) × (ended bytes d ≡ e)
+pub ended_some : (bytes : List ℕ) (r : Result (Option Element) EbmlFault) (e : Element) → ended_in bytes r ≡ Ok (Some e) → (d : Element) × (r ≡ Ok (Some d)) × (ended bytes d ≡ e)
 ended_some bytes (Ok None) e h = absurd cc
 ended_some bytes (Ok (Some d)) e h = (d, refl, cc)
 ended_some bytes (Err fault) e h = absurd cc

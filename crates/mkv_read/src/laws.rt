@@ -19,8 +19,9 @@ pub fn plain_is_whole()
     ensures { (bytes : List ℕ) (clip : ClipIndex) → IsPlainFile bytes clip → clip_of bytes ≡ Ok clip }
 {}
 
-/// In a file without a faulty element, the elements in each master that is read go up to its end, and
-/// where they are of known size, the bytes spell them one after the other.
+/// In a file without a faulty element, the elements in each master that is read follow one another up
+/// to its end. The bytes spell each of them, and those of unknown size, a Segment or Clusters, end
+/// where RFC 8794 and RFC 9559 say.
 pub fn sound_is_spelled()
     ensures { (bytes : List ℕ) → AllByRecursion (λ byte. byte < 256) bytes → fault_of bytes ≡ None
         → Spelled depth bytes FILE 0 (end_or (length bytes) (segment_of bytes)) }
