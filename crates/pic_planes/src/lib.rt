@@ -3,7 +3,7 @@
 
 mod shape;
 
-pub use shape::{Chroma, MAX_SHIFT, MAX_SIZE, Shape};
+pub use shape::{Chroma, Shape};
 
 #[cfg(test)]
 mod tests;

@@ -5,10 +5,10 @@ ghost use Rattle.pic_planes.specs.Shape.{IsShape, IsSize, AreShifts, layout};
 use std::marker::Model;
 
 /// The largest width and height of a picture, in samples.
-pub const MAX_SIZE: u32 = 8192;
+const MAX_SIZE: u32 = 8192;
 
 /// The largest shift of chroma: a quarter of the samples in that direction.
-pub const MAX_SHIFT: u8 = 2;
+const MAX_SHIFT: u8 = 2;
 
 /// The chroma planes of a picture.
 #[derive(Clone, Copy, Debug, PartialEq, Eq)]

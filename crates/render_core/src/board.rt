@@ -148,7 +148,8 @@ impl<M: Media, L: Lane> Board<M, L> {
     ) -> Result<EditReply, Full>
         requires library { media.now ≡ self.old.library }
         requires formed { IsEdit edit.now }
-        ensures { Does M.library self.old self.new by (act.Edit edit.now) of_edit result }
+        ensures done { Does M.library self.old self.new by (act.Edit edit.now) of_edit result }
+        ensures uses { 1 ≤ self.old.spare → OnOk result (self.new.spare + 1 ≡ self.old.spare) }
     {
         self.make_room(1)?;
         let Ok(copy) = edit.copy(alloc) else {
@@ -167,7 +168,8 @@ impl<M: Media, L: Lane> Board<M, L> {
 
     /// Wants the pictures of a range of frames: each recipe that isn't filed and has no open job gets the next job.
     pub fn want(&mut self, by: u32, first: u32, len: u32) -> Result<WantReply, Full>
-        ensures { Does M.library self.old self.new by (act.Want first len) of_want result }
+        ensures done { Does M.library self.old self.new by (act.Want first len) of_want result }
+        ensures uses { 1 ≤ self.old.spare → OnOk result (self.new.spare + 1 ≡ self.old.spare) }
     {
         self.make_room(1)?;
         let Ok(reply) = self.machine.want(first, len) else {
@@ -200,6 +202,7 @@ impl<M: Media, L: Lane> Board<M, L> {
     /// always be given back.
     pub fn claim(&mut self, by: u32) -> Result<ClaimReply, Full>
         ensures done { Claims M.library self.old self.new by result }
+        ensures uses { 2 ≤ self.old.spare → IfClaimed result (λ claim. self.new.spare + 2 ≡ self.old.spare) }
         ensures held { IfClaimed result (λ claim. Holds (state_of M.library self.new) by claim.job claim.recipe) }
         ensures renders { IfClaimed result (λ claim. CanRender (M.library self.new.library) claim.recipe) }
     {
