@@ -3,10 +3,12 @@
 //! An id is written with its length marker, as it stands in a file.
 #![tactic(auto)]
 
+mod law;
 mod table;
 
 ghost use Rattle.std.specs.Prelude.{◌↔◌, IsTrue, Contains};
 
+pub use law::elements_are_standard;
 pub use table::{FILE, Kind, MAY_BE_UNKNOWN, Row, TABLE, kind_in, may_be_unknown};
 
 // The EBML header, and its children.

@@ -9,7 +9,7 @@ pub enum Which {
     Frames,
 }
 
-/// Why no clip was read. For now only `Later` and `NoMemory` come.
+/// Why no clip was read. Of several faults the first in this order is answered; `Laced` and `TimeOrder` share a place.
 #[derive(Clone, Copy, Debug, PartialEq, Eq)]
 pub enum ClipFault {
     /// An element is faulty, whose first byte is at this place.
