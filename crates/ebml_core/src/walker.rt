@@ -121,9 +121,9 @@ impl<'a> Walker<'a> {
 
     /// Where the first element of one of these ids starts, or the walk's end where none comes before that
     /// and before the first faulty element: so an element of unknown size ends whose content is walked.
-    pub fn end_before(&mut self, ids: &[u32]) -> u64
-        ensures exact { result ≡ end_before ids.now self.old.end (rest_of self.old) }
-        ensures within { (self.old.place ≤ result) × (result ≤ self.old.end) }
+    pub fn end_before(mut self, ids: &[u32]) -> u64
+        ensures exact { result ≡ end_before ids.now self.entry.end (rest_of self.entry) }
+        ensures within { (self.entry.place ≤ result) × (result ≤ self.entry.end) }
     {
         loop {
             match self.next() {

@@ -17,7 +17,7 @@ fn ended(bytes: &[u8], element: Element) -> Element
     ensures lies { (result.content ≤ result.end) × (result.end ≤ element.end) }
 {
     if element.unknown && element.id == CLUSTER {
-        let mut children = Walker::over(bytes, element.content, element.end);
+        let children = Walker::over(bytes, element.content, element.end);
         let end = children.end_before(&TOP_LEVEL);
         return Element { end, ..element };
     }
