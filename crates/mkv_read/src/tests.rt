@@ -35,11 +35,11 @@ const MIXED: [u8; 202] = [
     0xE7, 0x81, 0x64,
     // SimpleBlock of track 1, laced
     0xA3, 0x85, 0x81, 0x00, 0x00, 0x86, 0x22,
+    // Void, which doesn't end the Cluster
+    0xEC, 0x80,
     // BlockGroup: BlockDuration, Block of track 3 at 101
     0xA0, 0x8B, 0x9B, 0x81, 0x28,
     0xA1, 0x86, 0x83, 0x00, 0x01, 0x00, 0x33, 0x34,
-    // Void
-    0xEC, 0x80,
     // Cluster, without a Timestamp: SimpleBlock at 101
     0x1F, 0x43, 0xB6, 0x75, 0x89,
     0xA3, 0x87, 0x83, 0x00, 0x65, 0x80, 0x44, 0x45, 0x46,
@@ -151,8 +151,8 @@ const CHANGES: [([(usize, u8); 2], Option<ClipFault>); 20] = [
     ),
     // A BlockGroup of unknown size, Cues of unknown size, a Timestamp of nine bytes.
     (
-        [(169, 0x8B), (169, 0xFF)],
-        Some(ClipFault::Ebml { at: 168 }),
+        [(171, 0x8B), (171, 0xFF)],
+        Some(ClipFault::Ebml { at: 170 }),
     ),
     (
         [(201, 0x80), (201, 0xFF)],
@@ -222,7 +222,7 @@ fn packets_of_a_track(rt: HostRuntime) -> Result<(), Fail> {
     assert_eq!(rt; clip.height, 2);
     let packets = [
         Place { from: 157, len: 1 },
-        Place { from: 179, len: 2 },
+        Place { from: 181, len: 2 },
         Place { from: 194, len: 3 },
     ];
     assert!(rt; clip.packets.as_slice() == packets.as_slice());
