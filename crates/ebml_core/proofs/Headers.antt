@@ -17,7 +17,7 @@ use Rattle.ebml_core.proofs.Vints.{ok_is, passed, vint_takes, vint_again}
 use Rattle.ebml_core.proofs.Pieces.{spelling-some}
 
 -- the value of a step that did not fail
-bind_ok : {A B E : Type 0} (r : Result A E) (f : A → Result B E) (y : B) → (r >>= f) ≡ Ok y → (x : A) × (r ≡ Ok x) × (f x ≡ Ok y)
+pub bind_ok : {A B E : Type 0} (r : Result A E) (f : A → Result B E) (y : B) → (r >>= f) ≡ Ok y → (x : A) × (r ≡ Ok x) × (f x ≡ Ok y)
 bind_ok (Ok x) f y e = (x, refl, e)
 bind_ok (Err d) f y e = absurd cc
 
@@ -35,7 +35,7 @@ vint_at-some most (first ∷ rest) octets e =
     let len = length-take-le (octet_count first) (first ∷ rest) long in
     subst (λ (x : List ℕ). 1 ≤ length x) (ok_is _ octets b.1) (omega (arith, len, octet_count-some first))
 
-abbrev header : ℕ → Size → ℕ → Header
+abbrev pub header : ℕ → Size → ℕ → Header
 header id size octets = record { id = id; size = size; octets = octets }
 
 abbrev ok_header : Header → Result Header VintFault
@@ -64,7 +64,7 @@ pub record HeaderParts (text : List ℕ) (h : Header) : Type 0 where
   pub size : vint_at 8 (drop (length ids) text) ≡ Ok sizes
   pub is : header (unsigned_of ids) (size_of sizes) (length ids + length sizes) ≡ h
 
-header_parts : (text : List ℕ) (h : Header) → header_at text ≡ Ok h → HeaderParts text h
+pub header_parts : (text : List ℕ) (h : Header) → header_at text ≡ Ok h → HeaderParts text h
 unfolding header_at id_at size_at
 header_parts text h e =
     let a = bind_ok (id_at text) (λ id. size_at (drop id.1 text) >>= λ size. Ok (record { id = id.0; size = size.0; octets = id.1 + size.1 })) h e in
@@ -84,18 +84,18 @@ header_parts text h e =
 
 -- ---- from the reading to the spelling
 
-element_at-some : (place : ℕ) (text : List ℕ) → 1 ≤ length text → element_at place text ≡ found (laid place (length text) (header_at text))
+pub element_at-some : (place : ℕ) (text : List ℕ) → 1 ≤ length text → element_at place text ≡ found (laid place (length text) (header_at text))
 unfolding element_at
 element_at-some place [] h = absurd (omega arith)
 element_at-some place (octet ∷ rest) h = refl
 
-abbrev ok_element : Element → Result Element EbmlFault
+abbrev pub ok_element : Element → Result Element EbmlFault
 ok_element e = Ok e
 
-element_is : (d e : Element) → ok_element d ≡ ok_element e → d ≡ e
+pub element_is : (d e : Element) → ok_element d ≡ ok_element e → d ≡ e
 element_is d e h = cc
 
-laid_found : (place room : ℕ) (r : Result Header VintFault) (e : Element) → found (laid place room r) ≡ Ok (Some e) → (h : Header) × (r ≡ Ok h) × (sized place room h h.size ≡ Ok e)
+pub laid_found : (place room : ℕ) (r : Result Header VintFault) (e : Element) → found (laid place room r) ≡ Ok (Some e) → (h : Header) × (r ≡ Ok h) × (sized place room h h.size ≡ Ok e)
 laid_found place room (Err fault) e h = absurd cc
 laid_found place room (Ok header) e h = (header, refl, unfound (sized place room header header.size) e h)
   where
@@ -116,7 +116,7 @@ element_parts place (octet ∷ rest) e h =
     let a = laid_found place (suc (length rest)) (header_at (octet ∷ rest)) e h in
     record { head = a.0; read = a.1; is = a.2 }
 
-guarded : (b : Bool) (fault : EbmlFault) (d e : Element) → cond b (Err fault) (Ok d) ≡ ok_element e → (b ≡ false) × (d ≡ e)
+pub guarded : (b : Bool) (fault : EbmlFault) (d e : Element) → cond b (Err fault) (Ok d) ≡ ok_element e → (b ≡ false) × (d ≡ e)
 guarded true fault d e h = absurd cc
 guarded false fault d e h = (refl, cc)
 

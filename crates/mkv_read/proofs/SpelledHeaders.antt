@@ -10,49 +10,11 @@ use Rattle.ebml_core.specs.declared.element.Header.{Header}
 use Rattle.ebml_core.specs.declared.element.EbmlFault.{EbmlFault}
 use Rattle.ebml_core.specs.declared.element.EbmlWhy.TheVariants as whys
 use Rattle.ebml_core.specs.Spelling.{unsigned_of, size_of, IsId, IsSize, IsVint}
-use Rattle.ebml_core.specs.Reading.{◌>>=◌, vint_at, id_at, size_at, header_at, sized, laid, found, element_at}
+use Rattle.ebml_core.specs.Reading.{id_at, size_at, header_at, sized, laid, found, element_at}
 use Rattle.ebml_core.proofs.Numbers.{AreBytes, AreBytes-drop}
 use Rattle.ebml_core.proofs.Vints.{vint_takes, vint_again}
+use Rattle.ebml_core.proofs.Headers.{header, header_parts, element_is, guarded, laid_found, element_at-some}
 use Rattle.mkv_read.specs.Spelled.{size_told}
-
--- ---- the parts of a header
-
--- the value of a step that did not fail
-bind_ok : {A B E : Type 0} (r : Result A E) (f : A → Result B E) (y : B) → (r >>= f) ≡ Ok y → (x : A) × (r ≡ Ok x) × (f x ≡ Ok y)
-bind_ok (Ok x) f y e = (x, refl, e)
-bind_ok (Err d) f y e = absurd cc
-
-abbrev header : ℕ → Size → ℕ → Header
-header id size octets = record { id = id; size = size; octets = octets }
-
-ok_is : {A E : Type 0} (g h : A) → ◌≡◌ {A = Result A E} (Ok g) (Ok h) → g ≡ h
-ok_is g h e = cc
-
--- the octets of the id and of the size that a header was read from
-record HasOctets (text : List ℕ) (h : Header) : Type 0 where
-  pub ids : List ℕ
-  pub sizes : List ℕ
-  pub id : vint_at 4 text ≡ Ok ids
-  pub size : vint_at 8 (drop (length ids) text) ≡ Ok sizes
-  pub is : header (unsigned_of ids) (size_of sizes) (length ids + length sizes) ≡ h
-
-header_octets : (text : List ℕ) (h : Header) → header_at text ≡ Ok h → HasOctets text h
-unfolding header_at id_at size_at
-header_octets text h e =
-    let a = bind_ok (id_at text) (λ id. size_at (drop id.1 text) >>= λ size. Ok (record { id = id.0; size = size.0; octets = id.1 + size.1 })) h e in
-    let ids = bind_ok (vint_at 4 text) (λ octets. Ok (unsigned_of octets, length octets)) a.0 a.1 in
-    let b = bind_ok (size_at (drop a.0.1 text)) (λ size. Ok (record { id = a.0.0; size = size.0; octets = a.0.1 + size.1 })) h a.2 in
-    let sizes = bind_ok (vint_at 8 (drop a.0.1 text)) (λ octets. Ok (size_of octets, length octets)) b.0 b.1 in
-    let id_is : (unsigned_of ids.0, length ids.0) ≡ a.0 = ok_is {E = VintFault} _ a.0 ids.2 in
-    let size_is : (size_of sizes.0, length sizes.0) ≡ b.0 = ok_is {E = VintFault} _ b.0 sizes.2 in
-    let id_len : length ids.0 ≡ a.0.1 = ap (λ (x : ℕ × ℕ). x.1) id_is in
-    record {
-      ids = ids.0;
-      sizes = sizes.0;
-      id = ids.1;
-      size = ap (λ (n : ℕ). vint_at 8 (drop n text)) id_len ∙ sizes.1;
-      is = ap (λ (x : ℕ × ℕ). header x.0 (size_of sizes.0) (x.1 + length sizes.0)) id_is ∙ ap (λ (x : Size × ℕ). header a.0.0 x.0 (a.0.1 + x.1)) size_is ∙ ok_is {E = VintFault} _ h b.2;
-    }
 
 -- ---- what a header tells of its element
 
@@ -66,16 +28,9 @@ record IsLaid (place room : ℕ) (h : Header) (size : Size) (e : Element) : Type
   pub within : e.end ≤ place + room
   pub last : e.unknown ≡ true → e.end ≡ place + room
 
-abbrev ok_element : Element → Result Element EbmlFault
-ok_element e = Ok e
-
-guarded : (b : Bool) (fault : EbmlFault) (d e : Element) → cond b (Err fault) (Ok d) ≡ ok_element e → (b ≡ false) × (d ≡ e)
-guarded true fault d e h = absurd cc
-guarded false fault d e h = (refl, cc)
-
 laid_is : (place room : ℕ) (h : Header) (size : Size) (e : Element) → h.octets ≤ room → sized place room h size ≡ Ok e → IsLaid place room h size e
 laid_is place room h Unknown e fits is =
-    subst (IsLaid place room h Unknown) (ok_is {E = EbmlFault} _ e is) (record { id = refl; size_is = refl; start = refl; content = refl; order = omega (arith, fits); within = omega arith; last = λ u. refl })
+    subst (IsLaid place room h Unknown) (element_is _ e is) (record { id = refl; size_is = refl; start = refl; content = refl; order = omega (arith, fits); within = omega arith; last = λ u. refl })
 laid_is place room h (Known size) e fits is =
     let a = guarded (ltb room (h.octets + size)) _ _ e is in
     let enough = ltb-false room (h.octets + size) a.0 in
@@ -96,17 +51,9 @@ pub record Heads (place : ℕ) (text : List ℕ) (e : Element) : Type 0 where
   pub within : e.end ≤ place + length text
   pub last : e.unknown ≡ true → e.end ≡ place + length text
 
-laid_found : (place room : ℕ) (r : Result Header VintFault) (e : Element) → found (laid place room r) ≡ Ok (Some e) → (h : Header) × (r ≡ Ok h) × (sized place room h h.size ≡ Ok e)
-laid_found place room (Err fault) e h = absurd cc
-laid_found place room (Ok header) e h = (header, refl, unfound (sized place room header header.size) e h)
-  where
-    unfound : (r : Result Element EbmlFault) (e : Element) → found r ≡ Ok (Some e) → r ≡ Ok e
-    unfound (Ok d) e h = cc
-    unfound (Err fault) e h = absurd cc
-
 heads_with : (place : ℕ) (text : List ℕ) (e : Element) → AreBytes text → (h : Header) → header_at text ≡ Ok h → sized place (length text) h h.size ≡ Ok e → Heads place text e
 heads_with place text e fits h read is =
-    let p = header_octets text h read in
+    let p = header_parts text h read in
     let v = vint_takes 4 text p.ids (omega arith) fits p.id in
     let w = vint_takes 8 (drop (length p.ids) text) p.sizes (omega arith) (AreBytes-drop (length p.ids) text fits) p.size in
     let octets : length p.ids + length p.sizes ≡ h.octets = ap (λ (g : Header). g.octets) p.is in
@@ -147,11 +94,6 @@ header_again : (text ids sizes rest : List ℕ) → text ≡ ids ++ (sizes ++ re
 unfolding header_at id_at size_at
 header_again text ids sizes rest front id size =
     ap header_at front ∙ rw (vint_again 4 ids (sizes ++ rest) (omega arith) id, drop_at ids (sizes ++ rest) (length ids) refl, vint_again 8 sizes rest (omega arith) size) refl
-
-element_at-some : (place : ℕ) (text : List ℕ) → 1 ≤ length text → element_at place text ≡ found (laid place (length text) (header_at text))
-unfolding element_at
-element_at-some place [] h = absurd (omega arith)
-element_at-some place (octet ∷ rest) h = refl
 
 -- the same element, read where its parent ends later
 pub record IsAgain (place : ℕ) (text : List ℕ) (d z : Element) : Type 0 where
