@@ -64,7 +64,7 @@ stop_then tells file name faults (stops.Faulty n) cause four told calm faulty = 
 stop_then tells file name faults (stops.FaultyClip of) cause four told calm faulty = absurd (omega (arith, four))
 stop_then tells file name faults stops.NoMemory cause four told calm faulty = absurd (omega (arith, four))
 
-stopped_then : {X : Type 0} (tells : Type 0) (faults : Count) (file : List ℕ → Option (List ℕ)) (name : List ℕ) (out_tells out_rose : Type 0) (before after : List ℕ)
+stopped_then : {X : Type 0} (tells : Type 0) (faults : Count) (file : List ℕ → Option (List ℕ)) (name : List ℕ) (out_tells out_rose : Type 0) (before after : List (List ℕ))
     → Stopped 4 (Some name) tells faults file out_tells out_rose before after → tells → (Rises faults → ⊥) → IsFaulty file name → X
 stopped_then tells faults file name ot or before after stopped told calm faulty =
     let named = stopped.named in
@@ -72,7 +72,7 @@ stopped_then tells faults file name ot or before after stopped told calm faulty 
     stop_then tells file name faults stopped.stop (subst (λ (n : List ℕ). StopHasCause tells file n faults stopped.stop) of stopped.cause) stopped.status_is told calm faulty
 
 pub three_or_five : (asked : Option (List ℕ)) (name : List ℕ) (tells : Type 0) (faults : Count) (file : List ℕ → Option (List ℕ)) (vault_tells : Type 0) (vault_faults : Count) (old new : List ℕ → Option (List ℕ))
-    (out_tells : Type 0) (out_faults : Count) (before after : List ℕ) (status : ℕ) → Runs asked tells faults file vault_tells vault_faults old new out_tells out_faults before after status
+    (out_tells : Type 0) (out_faults : Count) (before after : List (List ℕ)) (status : ℕ) → Runs asked tells faults file vault_tells vault_faults old new out_tells out_faults before after status
     → asked ≡ Some name → tells → (Rises faults → ⊥) → IsFaulty file name → (status ≡ 3) ⊎ (status ≡ 5)
 three_or_five asked name tells faults file vt vf old new ot outf before after status runs asked_is told calm faulty = elim runs.no_other [
   | inl zero ↦

@@ -1,5 +1,5 @@
 -- What a run did, from what its parts did.
-use Rattle.std.proofs.Common.{◌≡◌, ◌⊎◌, ℕ, Bool, true, false, List, Option, Some, None, Result, Ok, Err, refl, sym, ap, ◌∙◌, inl, inr, arith}
+use Rattle.std.proofs.Common.{◌≡◌, ◌⊎◌, ℕ, Bool, true, false, List, [], ◌∷◌, Option, Some, None, Result, Ok, Err, refl, sym, ap, ◌∙◌, inl, inr, arith}
 use Rattle.std.specs.Str.{bytes_eq}
 use Rattle.std.proofs.lemmas.Slice.Eq.{bytes_eq-Decides}
 use Rattle.tl_ports.specs.Outside.{KeepsOthers}
@@ -9,28 +9,29 @@ use Rattle.mkv_read.specs.declared.clip.ClipIndex.{ClipIndex}
 use Rattle.timeline_app.specs.declared.stop.Stop.{Stop}
 use Rattle.timeline_app.specs.declared.stop.Stop.TheVariants as stops
 use Rattle.timeline_app.specs.Script.{Form}
-use Rattle.timeline_app.specs.Lines.{usage_line, refused_lines}
-use Rattle.timeline_app.specs.Run.{Count, Rises, IsCalm, IsJob, IsInside, IsPartial, Says, Puts, StopsWith, StopHasCause, stop_line, stop_status, status_after, ChangesExport, Plays, export_lines}
+use Rattle.timeline_app.specs.Lines.{usage_line, refused_lines, memory_line}
+use Rattle.timeline_app.specs.Run.{Count, Rises, IsCalm, IsJob, IsInside, IsPartial, Says, Puts, PutsFront, StopsWith, StopHasCause, stop_line, stop_status, status_after, ChangesExport, Plays, export_lines}
 use Rattle.timeline_app.specs.Top.{Works, Stopped, ChangesOnlyExport, SaysTranscript, Runs}
 use Rattle.timeline_app.proofs.Saying.{whole_front}
 
 -- The last line decides only between its status and want of memory.
-pub stops_with : (tells : Type 0) (faults : Count) (before after text : List ℕ) (said : Result Unit PutFault) (status : ℕ) → Says tells before after text faults said
-    → StopsWith tells (Rises faults) before after text status (status_after said status)
-stops_with tells faults before after text (Ok done) status h = record { ended = inr (refl, inl h.0); said = whole_front tells before after text h.0 }
-stops_with tells faults before after text (Err putting.Failed) status h = record { ended = inr (refl, inr h); said = h.1 }
-stops_with tells faults before after text (Err putting.NoMemory) status h = record { ended = inl refl; said = h.1 }
+pub stops_with : (tells : Type 0) (faults : Count) (before after : List (List ℕ)) (line : List ℕ) (said : Result Unit PutFault) (status : ℕ) → Says tells before after (line ∷ []) faults said
+    → StopsWith tells faults before after line status (status_after said status)
+stops_with tells faults before after line (Ok done) status h = record { ended = inr (refl, inl h.0); said = whole_front tells before after (line ∷ []) h.0 }
+stops_with tells faults before after line (Err putting.Failed) status h = record { ended = inr (refl, inr h); said = h.1 }
+stops_with tells faults before after line (Err putting.NoMemory) status h = record { ended = inl (refl, h.0); said = h.1 }
 
 -- The words aren't of the form, and memory may have run out.
-misused_by : (tells : Type 0) (faults : Count) (file : List ℕ → Option (List ℕ)) (vault_tells : Type 0) (vault_count : ℕ) (old : List ℕ → Option (List ℕ)) (out_tells : Type 0) (out_faults : Count) (before after : List ℕ) (status : ℕ)
-    → (status ≡ 5) ⊎ ((status ≡ 2) × Puts out_tells (Rises out_faults) before after usage_line) → SaysTranscript None tells faults file vault_tells (vault_count, vault_count) old out_tells before after
+misused_by : (tells : Type 0) (faults : Count) (file : List ℕ → Option (List ℕ)) (vault_tells : Type 0) (vault_count : ℕ) (old : List ℕ → Option (List ℕ)) (out_tells : Type 0) (out_faults : Count) (before after : List (List ℕ)) (status : ℕ)
+    → ((status ≡ 5) × IsCalm out_faults) ⊎ ((status ≡ 2) × Puts out_tells (Rises out_faults) before after usage_line) → SaysTranscript None tells faults file vault_tells (vault_count, vault_count) old out_tells before after
     → Runs None tells faults file vault_tells (vault_count, vault_count) old old out_tells out_faults before after status
-misused_by tells faults file vt vf old ot outf before after status (inl memory) lines = record {
+misused_by tells faults file vt vf old ot outf before after status (inl (memory, calm)) lines = record {
   played = λ e. absurd (omega (arith, e, memory));
   calm = λ e. absurd (omega (arith, e, memory));
   misused = λ e. absurd (omega (arith, e, memory));
   faulty = λ e. absurd (omega (arith, e, memory));
   outside = λ e. absurd (omega (arith, e, memory));
+  memory = λ _. inl calm;
   no_other = inr (inr (inr (inr memory)));
   usage = λ _. inr memory;
   files = λ told other. inl refl;
@@ -43,6 +44,7 @@ misused_by tells faults file vt vf old ot outf before after status (inr h) lines
   misused = λ _. (refl, h.1);
   faulty = λ e. absurd (omega (arith, e, h.0));
   outside = λ e. absurd (omega (arith, e, h.0));
+  memory = λ e. absurd (omega (arith, e, h.0));
   no_other = inr (inl h.0);
   usage = λ _. inl h.0;
   files = λ told other. inl refl;
@@ -51,23 +53,24 @@ misused_by tells faults file vt vf old ot outf before after status (inr h) lines
 }
 
 -- The words aren't of the form.
-pub run_misused : (tells : Type 0) (faults : Count) (file : List ℕ → Option (List ℕ)) (vault_tells : Type 0) (vault_count : ℕ) (old : List ℕ → Option (List ℕ)) (out_tells : Type 0) (out_faults : Count) (before after : List ℕ) (status : ℕ)
-    → StopsWith out_tells (Rises out_faults) before after usage_line 2 status → Runs None tells faults file vault_tells (vault_count, vault_count) old old out_tells out_faults before after status
-run_misused tells faults file vt vf old ot outf before after status h = misused_by tells faults file vt vf old ot outf before after status h.ended (usage_line, inl (refl, refl), h.said)
+pub run_misused : (tells : Type 0) (faults : Count) (file : List ℕ → Option (List ℕ)) (vault_tells : Type 0) (vault_count : ℕ) (old : List ℕ → Option (List ℕ)) (out_tells : Type 0) (out_faults : Count) (before after : List (List ℕ)) (status : ℕ)
+    → StopsWith out_tells out_faults before after usage_line 2 status → Runs None tells faults file vault_tells (vault_count, vault_count) old old out_tells out_faults before after status
+run_misused tells faults file vt vf old ot outf before after status h = misused_by tells faults file vt vf old ot outf before after status h.ended (usage_line ∷ [], inl (refl, refl), h.said)
 
 -- a name that is there is none that isn't
 named : {A : Type 0} (name : List ℕ) → Some name ≡ None → A
 named name e = absurd cc
 
 -- The session didn't start, for want of memory.
-early_memory : (name : List ℕ) (tells : Type 0) (faults : Count) (file : List ℕ → Option (List ℕ)) (vault_tells : Type 0) (vault_count : ℕ) (old : List ℕ → Option (List ℕ)) (out_tells : Type 0) (out_faults : Count) (before after : List ℕ) (status : ℕ)
-    → status ≡ 5 → SaysTranscript (Some name) tells faults file vault_tells (vault_count, vault_count) old out_tells before after → Runs (Some name) tells faults file vault_tells (vault_count, vault_count) old old out_tells out_faults before after status
-early_memory name tells faults file vt vf old ot outf before after status memory lines = record {
+early_memory : (name : List ℕ) (tells : Type 0) (faults : Count) (file : List ℕ → Option (List ℕ)) (vault_tells : Type 0) (vault_count : ℕ) (old : List ℕ → Option (List ℕ)) (out_tells : Type 0) (out_faults : Count) (before after : List (List ℕ)) (status : ℕ)
+    → status ≡ 5 → IsCalm out_faults ⊎ PutsFront out_tells before after (memory_line ∷ []) → SaysTranscript (Some name) tells faults file vault_tells (vault_count, vault_count) old out_tells before after → Runs (Some name) tells faults file vault_tells (vault_count, vault_count) old old out_tells out_faults before after status
+early_memory name tells faults file vt vf old ot outf before after status memory how lines = record {
   played = λ e. absurd (omega (arith, e, memory));
   calm = λ e. absurd (omega (arith, e, memory));
   misused = λ e. absurd (omega (arith, e, memory));
   faulty = λ e. absurd (omega (arith, e, memory));
   outside = λ e. absurd (omega (arith, e, memory));
+  memory = λ _. how;
   no_other = inr (inr (inr (inr memory)));
   usage = λ e. named name e;
   files = λ told other. inl refl;
@@ -76,7 +79,7 @@ early_memory name tells faults file vt vf old ot outf before after status memory
 }
 
 -- The session didn't start, for a cause of status 3 or 4.
-early_three : (name : List ℕ) (tells : Type 0) (faults : Count) (file : List ℕ → Option (List ℕ)) (vault_tells : Type 0) (vault_count : ℕ) (old : List ℕ → Option (List ℕ)) (out_tells : Type 0) (out_faults : Count) (before after : List ℕ) (status : ℕ)
+early_three : (name : List ℕ) (tells : Type 0) (faults : Count) (file : List ℕ → Option (List ℕ)) (vault_tells : Type 0) (vault_count : ℕ) (old : List ℕ → Option (List ℕ)) (out_tells : Type 0) (out_faults : Count) (before after : List (List ℕ)) (status : ℕ)
     → status ≡ 3 → Stopped 3 (Some name) tells faults file out_tells (Rises out_faults) before after → SaysTranscript (Some name) tells faults file vault_tells (vault_count, vault_count) old out_tells before after → Runs (Some name) tells faults file vault_tells (vault_count, vault_count) old old out_tells out_faults before after status
 early_three name tells faults file vt vf old ot outf before after status three h lines = record {
   played = λ e. absurd (omega (arith, e, three));
@@ -84,6 +87,7 @@ early_three name tells faults file vt vf old ot outf before after status three h
   misused = λ e. absurd (omega (arith, e, three));
   faulty = λ _. h;
   outside = λ e. absurd (omega (arith, e, three));
+  memory = λ e. absurd (omega (arith, e, three));
   no_other = inr (inr (inl three));
   usage = λ e. named name e;
   files = λ told other. inl refl;
@@ -91,7 +95,7 @@ early_three name tells faults file vt vf old ot outf before after status three h
   lines = lines;
 }
 
-early_four : (name : List ℕ) (tells : Type 0) (faults : Count) (file : List ℕ → Option (List ℕ)) (vault_tells : Type 0) (vault_count : ℕ) (old : List ℕ → Option (List ℕ)) (out_tells : Type 0) (out_faults : Count) (before after : List ℕ) (status : ℕ)
+early_four : (name : List ℕ) (tells : Type 0) (faults : Count) (file : List ℕ → Option (List ℕ)) (vault_tells : Type 0) (vault_count : ℕ) (old : List ℕ → Option (List ℕ)) (out_tells : Type 0) (out_faults : Count) (before after : List (List ℕ)) (status : ℕ)
     → status ≡ 4 → Stopped 4 (Some name) tells faults file out_tells (Rises out_faults) before after → SaysTranscript (Some name) tells faults file vault_tells (vault_count, vault_count) old out_tells before after → Runs (Some name) tells faults file vault_tells (vault_count, vault_count) old old out_tells out_faults before after status
 early_four name tells faults file vt vf old ot outf before after status four h lines = record {
   played = λ e. absurd (omega (arith, e, four));
@@ -99,6 +103,7 @@ early_four name tells faults file vt vf old ot outf before after status four h l
   misused = λ e. absurd (omega (arith, e, four));
   faulty = λ e. absurd (omega (arith, e, four));
   outside = λ _. inr (inl h);
+  memory = λ e. absurd (omega (arith, e, four));
   no_other = inr (inr (inr (inl four)));
   usage = λ e. named name e;
   files = λ told other. inl refl;
@@ -107,24 +112,24 @@ early_four name tells faults file vt vf old ot outf before after status four h l
 }
 
 -- The session didn't start: its status is that of its cause, or memory ran out.
-stopped_by : (name : List ℕ) (tells : Type 0) (faults : Count) (file : List ℕ → Option (List ℕ)) (vault_tells : Type 0) (vault_count : ℕ) (old : List ℕ → Option (List ℕ)) (out_tells : Type 0) (out_faults : Count) (before after : List ℕ) (stop : Stop) (status : ℕ)
-    → StopHasCause tells file name faults stop → (status ≡ 5) ⊎ ((status ≡ stop_status stop) × Puts out_tells (Rises out_faults) before after (stop_line stop)) → SaysTranscript (Some name) tells faults file vault_tells (vault_count, vault_count) old out_tells before after
+stopped_by : (name : List ℕ) (tells : Type 0) (faults : Count) (file : List ℕ → Option (List ℕ)) (vault_tells : Type 0) (vault_count : ℕ) (old : List ℕ → Option (List ℕ)) (out_tells : Type 0) (out_faults : Count) (before after : List (List ℕ)) (stop : Stop) (status : ℕ)
+    → StopHasCause tells file name faults stop → StopsWith out_tells out_faults before after (stop_line stop) (stop_status stop) status → ((status ≡ 5) × IsCalm out_faults) ⊎ ((status ≡ stop_status stop) × Puts out_tells (Rises out_faults) before after (stop_line stop)) → SaysTranscript (Some name) tells faults file vault_tells (vault_count, vault_count) old out_tells before after
     → Runs (Some name) tells faults file vault_tells (vault_count, vault_count) old old out_tells out_faults before after status
-stopped_by name tells faults file vt vf old ot outf before after stop status cause (inl memory) lines = early_memory name tells faults file vt vf old ot outf before after status memory lines
-stopped_by name tells faults file vt vf old ot outf before after (stops.Unfetched of fault) status cause (inr h) lines =
+stopped_by name tells faults file vt vf old ot outf before after stop status cause ends (inl (memory, calm)) lines = early_memory name tells faults file vt vf old ot outf before after status memory (inl calm) lines
+stopped_by name tells faults file vt vf old ot outf before after (stops.Unfetched of fault) status cause ends (inr h) lines =
     early_four name tells faults file vt vf old ot outf before after status h.0 (record { of = name; named = refl; stop = stops.Unfetched of fault; cause = cause; status_is = refl; line = h.1 }) lines
-stopped_by name tells faults file vt vf old ot outf before after (stops.Faulty n) status cause (inr h) lines =
+stopped_by name tells faults file vt vf old ot outf before after (stops.Faulty n) status cause ends (inr h) lines =
     early_three name tells faults file vt vf old ot outf before after status h.0 (record { of = name; named = refl; stop = stops.Faulty n; cause = cause; status_is = refl; line = h.1 }) lines
-stopped_by name tells faults file vt vf old ot outf before after (stops.FaultyClip fault) status cause (inr h) lines =
+stopped_by name tells faults file vt vf old ot outf before after (stops.FaultyClip fault) status cause ends (inr h) lines =
     early_three name tells faults file vt vf old ot outf before after status h.0 (record { of = name; named = refl; stop = stops.FaultyClip fault; cause = cause; status_is = refl; line = h.1 }) lines
-stopped_by name tells faults file vt vf old ot outf before after stops.NoMemory status cause (inr h) lines = early_memory name tells faults file vt vf old ot outf before after status h.0 lines
+stopped_by name tells faults file vt vf old ot outf before after stops.NoMemory status cause ends (inr h) lines = early_memory name tells faults file vt vf old ot outf before after status h.0 (inr ends.said) lines
 
 -- The session didn't start.
-pub run_stopped : (name : List ℕ) (tells : Type 0) (faults : Count) (file : List ℕ → Option (List ℕ)) (vault_tells : Type 0) (vault_count : ℕ) (old : List ℕ → Option (List ℕ)) (out_tells : Type 0) (out_faults : Count) (before after : List ℕ) (stop : Stop) (status : ℕ)
-    → StopHasCause tells file name faults stop → StopsWith out_tells (Rises out_faults) before after (stop_line stop) (stop_status stop) status
+pub run_stopped : (name : List ℕ) (tells : Type 0) (faults : Count) (file : List ℕ → Option (List ℕ)) (vault_tells : Type 0) (vault_count : ℕ) (old : List ℕ → Option (List ℕ)) (out_tells : Type 0) (out_faults : Count) (before after : List (List ℕ)) (stop : Stop) (status : ℕ)
+    → StopHasCause tells file name faults stop → StopsWith out_tells out_faults before after (stop_line stop) (stop_status stop) status
     → Runs (Some name) tells faults file vault_tells (vault_count, vault_count) old old out_tells out_faults before after status
 run_stopped name tells faults file vt vf old ot outf before after stop status cause h =
-    stopped_by name tells faults file vt vf old ot outf before after stop status cause h.ended (stop_line stop, inr (inl (name, refl, (stop, cause, refl))), h.said)
+    stopped_by name tells faults file vt vf old ot outf before after stop status cause h h.ended (stop_line stop ∷ [], inr (inl (name, refl, (stop, cause, refl))), h.said)
 
 -- Playing has no other status than 0, 4 and 5.
 apart : {A : Type 0} (status other : ℕ) → (status ≡ 0) ⊎ ((status ≡ 4) ⊎ (status ≡ 5)) → (other ≡ 2) ⊎ (other ≡ 3) → status ≡ other → A
@@ -157,7 +162,7 @@ changes name tells file vt old new script bytes clip works inside own others tol
     at false e = inl (others told other (λ same. let yes : bytes_eq other script.export ≡ true = (bytes_eq-Decides other script.export).1 same in absurd (cc)))
 
 -- The script was played.
-pub run_played : (name : List ℕ) (tells : Type 0) (faults : Count) (file : List ℕ → Option (List ℕ)) (vault_tells : Type 0) (vault_faults : Count) (old new : List ℕ → Option (List ℕ)) (out_tells : Type 0) (out_faults : Count) (before after : List ℕ)
+pub run_played : (name : List ℕ) (tells : Type 0) (faults : Count) (file : List ℕ → Option (List ℕ)) (vault_tells : Type 0) (vault_faults : Count) (old new : List ℕ → Option (List ℕ)) (out_tells : Type 0) (out_faults : Count) (before after : List (List ℕ))
     (script : Form) (bytes : List ℕ) (clip : ClipIndex) (status : ℕ) → IsJob tells file name script bytes clip → IsCalm faults → Plays vault_tells vault_faults old new out_tells out_faults before after script bytes clip status
     → Runs (Some name) tells faults file vault_tells vault_faults old new out_tells out_faults before after status
 run_played name tells faults file vt vf old new ot outf before after script bytes clip status job fetched (inl (inside, h, asked)) =
@@ -171,6 +176,7 @@ run_played name tells faults file vt vf old new ot outf before after script byte
         | inl r ↦ inl (record { script = script; bytes = bytes; clip = clip; works = works; rose = r })
         | inr v ↦ inr (inr (record { script = script; bytes = bytes; clip = clip; works = works; inside = inside; rose = v.0; lines = v.1 }))
       ];
+      memory = λ e. inl (h.memory e);
       no_other = one_of status h.no_other;
       usage = λ e. named name e;
       asked = elim asked [ inl untouched ↦ inl untouched | inr first ↦ inr (script, bytes, clip, works, inside, first) ];
@@ -185,6 +191,7 @@ run_played name tells faults file vt vf old new ot outf before after script byte
       misused = λ e. apart status 2 h.no_other (inl refl) e;
       faulty = λ e. apart status 3 h.no_other (inr refl) e;
       outside = λ e. inl (record { script = script; bytes = bytes; clip = clip; works = works; rose = h.failed e });
+      memory = λ e. inl (h.memory e);
       no_other = one_of status h.no_other;
       usage = λ e. named name e;
       files = λ told other. inl (untouched.1 told other);

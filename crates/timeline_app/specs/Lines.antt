@@ -1,5 +1,5 @@
 -- The lines that the program puts out, each ended by a line feed.
-use Rattle.std.specs.Prelude.{ℕ, List, [], ◌∷◌, ◌++◌, codes}
+use Rattle.std.specs.Prelude.{◌≡◌, ◌⊎◌, ℕ, List, [], ◌∷◌, ◌++◌, take, codes}
 use Rattle.std.specs.Fmt.{decimal}
 use Rattle.tl_ports.specs.declared.fault.FetchFault.{FetchFault}
 use Rattle.tl_ports.specs.declared.fault.FetchFault.TheVariants as fetching
@@ -35,8 +35,8 @@ refused_insert_line = line (codes "refused OutsideClip")
 unfoldable pub refused_export_line : List ℕ
 refused_export_line = line (codes "refused EmptyTimeline")
 
-abbrev pub refused_lines : List ℕ
-refused_lines = refused_insert_line ++ refused_export_line
+abbrev pub refused_lines : List (List ℕ)
+refused_lines = refused_insert_line ∷ refused_export_line ∷ []
 
 -- the script's line n, counted from 1, is faulty
 unfoldable pub fault_line : (n : ℕ) → List ℕ
@@ -77,3 +77,10 @@ memory_line = line (codes "no memory")
 -- memory ran out in the export
 unfoldable pub export_memory_line : List ℕ
 export_memory_line = line (codes "export 1 memory")
+
+-- Some front of lines was put, piece by piece: nothing; or the first line whole and then a front of the others; or a front of the first line
+-- and nothing after it.
+abbrev pub IsFront : (pieces lines : List (List ℕ)) → Type 0
+IsFront [] lines = Unit {0}
+IsFront (piece ∷ pieces) [] = ⊥
+IsFront (piece ∷ pieces) (line ∷ lines) = ((piece ≡ line) × IsFront pieces lines) ⊎ ((pieces ≡ []) × ((count : ℕ) × (piece ≡ take count line)))

@@ -21,7 +21,7 @@ use Rattle.timeline_app.specs.declared.stop.Stop.{Stop}
 use Rattle.timeline_app.specs.declared.stop.Stop.TheVariants as stops
 use Rattle.timeline_app.specs.Script.{Form, script_of}
 use Rattle.timeline_app.specs.Reading.{view}
-use Rattle.timeline_app.specs.Lines.{ok_line, asked_line, done_line, sink_line, refused_lines, fault_line, clip_fault_line, store_line, memory_line, export_memory_line}
+use Rattle.timeline_app.specs.Lines.{IsFront, ok_line, asked_line, done_line, sink_line, refused_lines, fault_line, clip_fault_line, store_line, memory_line, export_memory_line}
 
 -- A count of faults, before and after.
 abbrev pub Count : Type 0
@@ -188,15 +188,15 @@ ending_of (Ok frames) (Err putting.NoMemory) = endings.NoMemory
 abbrev pub ChangesExport : (tells : Type 0) (old new : Option (List ℕ)) → Form → List ℕ → ClipIndex → Type 0
 ChangesExport tells old new script bytes clip = tells → (new ≡ old) ⊎ ((held : List ℕ) × (new ≡ Some held) × IsPartial held script bytes clip)
 
--- Some front of a text was put.
-abbrev pub PutsFront : (tells : Type 0) (before after text : List ℕ) → Type 0
-PutsFront tells before after text = tells → (count : ℕ) × (after ≡ before ++ take count text)
+-- Some front of these lines was put.
+abbrev pub PutsFront : (tells : Type 0) (before after lines : List (List ℕ)) → Type 0
+PutsFront tells before after lines = tells → (pieces : List (List ℕ)) × (after ≡ before ++ pieces) × IsFront pieces lines
 
--- A text was put, whole, or some front of it where the count rose or memory ran out.
-abbrev pub Says : (tells : Type 0) (before after text : List ℕ) (faults : Count) → Result Unit PutFault → Type 0
-Says tells before after text faults (Ok done) = (tells → after ≡ before ++ text) × IsCalm faults
-Says tells before after text faults (Err putting.Failed) = Rises faults × PutsFront tells before after text
-Says tells before after text faults (Err putting.NoMemory) = IsCalm faults × PutsFront tells before after text
+-- Lines were put, each whole and by itself, or some front of them where the count rose or memory ran out.
+abbrev pub Says : (tells : Type 0) (before after lines : List (List ℕ)) (faults : Count) → Result Unit PutFault → Type 0
+Says tells before after lines faults (Ok done) = (tells → after ≡ before ++ lines) × IsCalm faults
+Says tells before after lines faults (Err putting.Failed) = Rises faults × PutsFront tells before after lines
+Says tells before after lines faults (Err putting.NoMemory) = IsCalm faults × PutsFront tells before after lines
 
 -- The line that says how the export ended.
 abbrev pub ending_line : Ending → List ℕ
@@ -205,12 +205,12 @@ ending_line endings.Sink = sink_line
 ending_line endings.NoMemory = export_memory_line
 
 -- What `out` gets from the line of the ask on, where the export ended so.
-abbrev pub asked_lines : Ending → List ℕ
-asked_lines ending = asked_line ++ ending_line ending
+abbrev pub asked_lines : Ending → List (List ℕ)
+asked_lines ending = asked_line ∷ ending_line ending ∷ []
 
 -- What `out` gets of a script of so many frames whose export ended so.
-abbrev pub export_lines : (frames : ℕ) → Ending → List ℕ
-export_lines frames ending = ok_line frames ++ asked_lines ending
+abbrev pub export_lines : (frames : ℕ) → Ending → List (List ℕ)
+export_lines frames ending = ok_line frames ∷ asked_lines ending
 
 -- The status of a session that a line stopped.
 abbrev pub fault_status : PutFault → ℕ
@@ -224,14 +224,16 @@ ending_status endings.Sink = 4
 ending_status endings.NoMemory = 5
 
 -- What an export did that was asked for, by the status. `lines` is what `out` was to get, by how the export ended.
-pub record PlaysExport (vault_tells : Type 0) (vault_faults : Count) (old new : List ℕ → Option (List ℕ)) (out_tells : Type 0) (out_faults : Count) (before after : List ℕ)
-    (lines : Ending → List ℕ) (script : Form) (bytes : List ℕ) (clip : ClipIndex) (status : ℕ) : Type 0 where
+pub record PlaysExport (vault_tells : Type 0) (vault_faults : Count) (old new : List ℕ → Option (List ℕ)) (out_tells : Type 0) (out_faults : Count) (before after : List (List ℕ))
+    (lines : Ending → List (List ℕ)) (script : Form) (bytes : List ℕ) (clip : ClipIndex) (status : ℕ) : Type 0 where
   -- every line was put, and the file is whole
   pub done : status ≡ 0 → (out_tells → after ≡ before ++ lines (endings.Done script.len)) × (vault_tells → new script.export ≡ Some (export_of script bytes clip))
   -- and there was no fault
   pub calm : status ≡ 0 → IsCalm vault_faults × IsCalm out_faults
   -- `out` failed; or the vault did, and `out` says so
   pub failed : status ≡ 4 → Rises out_faults ⊎ (Rises vault_faults × (out_tells → after ≡ before ++ lines endings.Sink))
+  -- memory ran out, and `out` had no fault
+  pub memory : status ≡ 5 → IsCalm out_faults
   pub no_other : (status ≡ 0) ⊎ ((status ≡ 4) ⊎ (status ≡ 5))
   -- whatever the status, the file is as before or holds some front of the export, and no other changed
   pub file : ChangesExport vault_tells (old script.export) (new script.export) script bytes clip
@@ -240,10 +242,11 @@ pub record PlaysExport (vault_tells : Type 0) (vault_faults : Count) (old new : 
   pub said : (ending : Ending) × EndsExport vault_tells new vault_faults script bytes clip ending × PutsFront out_tells before after (lines ending)
 
 -- What an insert past the clip's end did, by the status: it was refused, and nothing was exported.
-pub record PlaysRefusal (out_tells : Type 0) (out_faults : Count) (before after : List ℕ) (status : ℕ) : Type 0 where
+pub record PlaysRefusal (out_tells : Type 0) (out_faults : Count) (before after : List (List ℕ)) (status : ℕ) : Type 0 where
   pub done : status ≡ 0 → out_tells → after ≡ before ++ refused_lines
   pub calm : status ≡ 0 → IsCalm out_faults
   pub failed : status ≡ 4 → Rises out_faults
+  pub memory : status ≡ 5 → IsCalm out_faults
   pub no_other : (status ≡ 0) ⊎ ((status ≡ 4) ⊎ (status ≡ 5))
   pub said : PutsFront out_tells before after refused_lines
 
@@ -252,25 +255,25 @@ abbrev pub IsUntouched : (tells : Type 0) (faults : Count) (old new : List ℕ �
 IsUntouched tells faults old new = IsCalm faults × (tells → (name : List ℕ) → new name ≡ old name)
 
 -- A line was put, whole, and then others may have been.
-abbrev pub PutsFirst : (tells : Type 0) (before after line : List ℕ) → Type 0
-PutsFirst tells before after line = tells → (rest : List ℕ) × (after ≡ before ++ (line ++ rest))
+abbrev pub PutsFirst : (tells : Type 0) (before after : List (List ℕ)) (line : List ℕ) → Type 0
+PutsFirst tells before after line = tells → (rest : List (List ℕ)) × (after ≡ before ++ line ∷ rest)
 
 -- What playing a script did, by the status: its frames lie within the clip and it was exported, or they don't and it was refused.
-abbrev pub Plays : (vault_tells : Type 0) (vault_faults : Count) (old new : List ℕ → Option (List ℕ)) (out_tells : Type 0) (out_faults : Count) (before after : List ℕ)
+abbrev pub Plays : (vault_tells : Type 0) (vault_faults : Count) (old new : List ℕ → Option (List ℕ)) (out_tells : Type 0) (out_faults : Count) (before after : List (List ℕ))
     (script : Form) (bytes : List ℕ) (clip : ClipIndex) (status : ℕ) → Type 0
 Plays vault_tells vault_faults old new out_tells out_faults before after script bytes clip status =
     (IsInside script clip × PlaysExport vault_tells vault_faults old new out_tells out_faults before after (export_lines script.len) script bytes clip status
     × (IsUntouched vault_tells vault_faults old new ⊎ PutsFirst out_tells before after (ok_line script.len)))
     ⊎ ((length clip.packets < script.len) × PlaysRefusal out_tells out_faults before after status × IsUntouched vault_tells vault_faults old new)
 
--- A text was put, whole, or some front of it where the count rose.
-abbrev pub Puts : (tells rose : Type 0) (before after text : List ℕ) → Type 0
-Puts tells rose before after text = (tells → after ≡ before ++ text) ⊎ (rose × (tells → (count : ℕ) × (after ≡ before ++ take count text)))
+-- A line was put, whole, or some front of it where the count rose.
+abbrev pub Puts : (tells rose : Type 0) (before after : List (List ℕ)) (line : List ℕ) → Type 0
+Puts tells rose before after line = (tells → after ≡ before ++ line ∷ []) ⊎ (rose × PutsFront tells before after (line ∷ []))
 
--- A session ended before its start with this status, once this text was put; or memory ran out.
-pub record StopsWith (tells rose : Type 0) (before after text : List ℕ) (status result : ℕ) : Type 0 where
-  pub ended : (result ≡ 5) ⊎ ((result ≡ status) × Puts tells rose before after text)
-  pub said : PutsFront tells before after text
+-- A session ended before its start with this status, once this line was put; or memory ran out, and `out` had no fault.
+pub record StopsWith (tells : Type 0) (faults : Count) (before after : List (List ℕ)) (line : List ℕ) (status result : ℕ) : Type 0 where
+  pub ended : ((result ≡ 5) × IsCalm faults) ⊎ ((result ≡ status) × Puts tells (Rises faults) before after line)
+  pub said : PutsFront tells before after (line ∷ [])
 
 -- The status after the last line, which was put so.
 abbrev pub status_after : Result Unit PutFault → ℕ → ℕ

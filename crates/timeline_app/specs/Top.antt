@@ -1,5 +1,5 @@
 -- What the top call's statuses say of the run.
-use Rattle.std.specs.Prelude.{◌≡◌, ◌⊎◌, ℕ, ◌<◌, ◌≤◌, List, ◌++◌, length, Option, None, Some, Ok, Err}
+use Rattle.std.specs.Prelude.{◌≡◌, ◌⊎◌, ℕ, ◌<◌, ◌≤◌, List, [], ◌∷◌, ◌++◌, length, Option, None, Some, Ok, Err}
 use Rattle.mkv_read.specs.declared.clip.ClipIndex.{ClipIndex}
 use Rattle.timeline_app.specs.declared.export.Ending.{Ending}
 use Rattle.timeline_app.specs.declared.export.Ending.TheVariants as endings
@@ -7,7 +7,7 @@ use Rattle.timeline_app.specs.declared.stop.Stop.{Stop}
 use Rattle.mkv_read.specs.declared.fault.ClipFault.{ClipFault}
 use Rattle.mkv_read.specs.Clip.{clip_of}
 use Rattle.timeline_app.specs.Script.{Form, script_of}
-use Rattle.timeline_app.specs.Lines.{usage_line, ok_line, refused_lines}
+use Rattle.timeline_app.specs.Lines.{usage_line, ok_line, refused_lines, memory_line}
 use Rattle.timeline_app.specs.Run.{Count, Rises, IsCalm, script_limit, clip_limit, IsJob, IsInside, IsPartial, IsUntouched, PutsFirst, EndsExport, export_of, export_lines, StopHasCause, stop_line, stop_status, Puts, PutsFront}
 
 -- A script of the form and a file with its clip were fetched, of the name that the words give.
@@ -18,13 +18,13 @@ pub record Works (name : Option (List ℕ)) (tells : Type 0) (file : List ℕ �
 
 -- The script was played to its end. Where its frames lie within the clip, `out` got the three lines of the insert and the export, and the vault has the file;
 -- where they don't, `out` got both refusals, and the vault's files are as before.
-abbrev pub Played : (vault_tells : Type 0) (old new : List ℕ → Option (List ℕ)) (out_tells : Type 0) (before after : List ℕ) → Form → List ℕ → ClipIndex → Type 0
+abbrev pub Played : (vault_tells : Type 0) (old new : List ℕ → Option (List ℕ)) (out_tells : Type 0) (before after : List (List ℕ)) → Form → List ℕ → ClipIndex → Type 0
 Played vault_tells old new out_tells before after script bytes clip =
     (IsInside script clip × (out_tells → after ≡ before ++ export_lines script.len (endings.Done script.len)) × (vault_tells → new script.export ≡ Some (export_of script bytes clip)))
     ⊎ ((length clip.packets < script.len) × (out_tells → after ≡ before ++ refused_lines) × (vault_tells → (name : List ℕ) → new name ≡ old name))
 
 -- The session didn't start, for a cause that has this status, and `out` got the line that says so.
-pub record Stopped (status : ℕ) (name : Option (List ℕ)) (tells : Type 0) (faults : Count) (file : List ℕ → Option (List ℕ)) (out_tells out_rose : Type 0) (before after : List ℕ) : Type 0 where
+pub record Stopped (status : ℕ) (name : Option (List ℕ)) (tells : Type 0) (faults : Count) (file : List ℕ → Option (List ℕ)) (out_tells out_rose : Type 0) (before after : List (List ℕ)) : Type 0 where
   pub of : List ℕ
   pub named : name ≡ Some of
   pub stop : Stop
@@ -41,7 +41,7 @@ pub record Unsaid (name : Option (List ℕ)) (tells : Type 0) (file : List ℕ �
   pub rose : out_rose
 
 -- The export failed, and `out` says so: the vault's count rose.
-pub record Unsunk (name : Option (List ℕ)) (tells : Type 0) (file : List ℕ → Option (List ℕ)) (vault_rose out_tells : Type 0) (before after : List ℕ) : Type 0 where
+pub record Unsunk (name : Option (List ℕ)) (tells : Type 0) (file : List ℕ → Option (List ℕ)) (vault_rose out_tells : Type 0) (before after : List (List ℕ)) : Type 0 where
   pub script : Form
   pub bytes : List ℕ
   pub clip : ClipIndex
@@ -58,23 +58,23 @@ ChangesOnlyExport name tells file vault_tells old new = vault_tells → (other :
 
 -- The vault is as it was; or the line of an insert was put, whole, after which the export was asked for.
 abbrev pub ExportsWhenAsked : (name : Option (List ℕ)) (tells : Type 0) (file : List ℕ → Option (List ℕ)) (vault_tells : Type 0) (vault_faults : Count) (old new : List ℕ → Option (List ℕ))
-    (out_tells : Type 0) (before after : List ℕ) → Type 0
+    (out_tells : Type 0) (before after : List (List ℕ)) → Type 0
 ExportsWhenAsked name tells file vault_tells vault_faults old new out_tells before after = IsUntouched vault_tells vault_faults old new
     ⊎ ((script : Form) × (bytes : List ℕ) × (clip : ClipIndex) × Works name tells file script bytes clip × IsInside script clip × PutsFirst out_tells before after (ok_line script.len))
 
 -- What `out` was to get: the usage line; the line that says why the session doesn't start; the lines of the insert and of the export, which say how that ended; or both refusals.
-abbrev pub IsTranscript : (name : Option (List ℕ)) (tells : Type 0) (faults : Count) (file : List ℕ → Option (List ℕ)) (vault_tells : Type 0) (vault_faults : Count) (new : List ℕ → Option (List ℕ)) (text : List ℕ) → Type 0
-IsTranscript name tells faults file vault_tells vault_faults new text =
-    ((name ≡ None) × (text ≡ usage_line))
-    ⊎ (((of : List ℕ) × (name ≡ Some of) × ((stop : Stop) × StopHasCause tells file of faults stop × (text ≡ stop_line stop)))
+abbrev pub IsTranscript : (name : Option (List ℕ)) (tells : Type 0) (faults : Count) (file : List ℕ → Option (List ℕ)) (vault_tells : Type 0) (vault_faults : Count) (new : List ℕ → Option (List ℕ)) (lines : List (List ℕ)) → Type 0
+IsTranscript name tells faults file vault_tells vault_faults new lines =
+    ((name ≡ None) × (lines ≡ usage_line ∷ []))
+    ⊎ (((of : List ℕ) × (name ≡ Some of) × ((stop : Stop) × StopHasCause tells file of faults stop × (lines ≡ stop_line stop ∷ [])))
     ⊎ ((script : Form) × (bytes : List ℕ) × (clip : ClipIndex) × Works name tells file script bytes clip
-    × ((IsInside script clip × ((ending : Ending) × EndsExport vault_tells new vault_faults script bytes clip ending × (text ≡ export_lines script.len ending))) ⊎ ((length clip.packets < script.len) × (text ≡ refused_lines)))))
+    × ((IsInside script clip × ((ending : Ending) × EndsExport vault_tells new vault_faults script bytes clip ending × (lines ≡ export_lines script.len ending))) ⊎ ((length clip.packets < script.len) × (lines ≡ refused_lines)))))
 
 -- Whatever the status, `out` got some front of that.
 abbrev pub SaysTranscript : (name : Option (List ℕ)) (tells : Type 0) (faults : Count) (file : List ℕ → Option (List ℕ)) (vault_tells : Type 0) (vault_faults : Count) (new : List ℕ → Option (List ℕ))
-    (out_tells : Type 0) (before after : List ℕ) → Type 0
+    (out_tells : Type 0) (before after : List (List ℕ)) → Type 0
 SaysTranscript name tells faults file vault_tells vault_faults new out_tells before after =
-    (text : List ℕ) × IsTranscript name tells faults file vault_tells vault_faults new text × PutsFront out_tells before after text
+    (lines : List (List ℕ)) × IsTranscript name tells faults file vault_tells vault_faults new lines × PutsFront out_tells before after lines
 
 -- The told script isn't of the form, or it is and its told clip has a fault; neither is over its limit.
 abbrev pub IsFaulty : (file : List ℕ → Option (List ℕ)) (name : List ℕ) → Type 0
@@ -85,13 +85,14 @@ IsFaulty file name =
 
 -- What a run did, by its status.
 pub record Runs (name : Option (List ℕ)) (tells : Type 0) (faults : Count) (file : List ℕ → Option (List ℕ)) (vault_tells : Type 0) (vault_faults : Count) (old new : List ℕ → Option (List ℕ))
-    (out_tells : Type 0) (out_faults : Count) (before after : List ℕ) (status : ℕ) : Type 0 where
+    (out_tells : Type 0) (out_faults : Count) (before after : List (List ℕ)) (status : ℕ) : Type 0 where
   pub played : status ≡ 0 → (script : Form) × (bytes : List ℕ) × (clip : ClipIndex) × Works name tells file script bytes clip × Played vault_tells old new out_tells before after script bytes clip
   pub calm : status ≡ 0 → IsCalm faults × IsCalm vault_faults × IsCalm out_faults
   pub misused : status ≡ 2 → (name ≡ None) × Puts out_tells (Rises out_faults) before after usage_line
   pub faulty : status ≡ 3 → Stopped 3 name tells faults file out_tells (Rises out_faults) before after
   pub outside : status ≡ 4 → Unsaid name tells file (Rises out_faults)
       ⊎ (Stopped 4 name tells faults file out_tells (Rises out_faults) before after ⊎ Unsunk name tells file (Rises vault_faults) out_tells before after)
+  pub memory : status ≡ 5 → IsCalm out_faults ⊎ PutsFront out_tells before after (memory_line ∷ [])
   pub no_other : (status ≡ 0) ⊎ ((status ≡ 2) ⊎ ((status ≡ 3) ⊎ ((status ≡ 4) ⊎ (status ≡ 5))))
   pub usage : name ≡ None → (status ≡ 2) ⊎ (status ≡ 5)
   pub files : ChangesOnlyExport name tells file vault_tells old new

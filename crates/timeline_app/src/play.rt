@@ -38,7 +38,7 @@ fn play_asked<V: Vault, O: Sink>(alloc: Global, job: &Job, vault: &mut V, out: &
     requires idle { V.begun vault.old ≡ None }
     requires sound { IsSound job.now.bytes.items job.now.index }
     requires inside { IsInside (view job.now.script) job.now.index }
-    ensures plays { PlaysExport V.tells (V.faults vault.old, V.faults vault.new) (V.file vault.old) (V.file vault.new) O.tells (O.faults out.old, O.faults out.new) (O.contents out.old) (O.contents out.new) asked_lines (view job.now.script) job.now.bytes.items job.now.index result }
+    ensures plays { PlaysExport V.tells (V.faults vault.old, V.faults vault.new) (V.file vault.old) (V.file vault.new) O.tells (O.faults out.old, O.faults out.new) (O.pieces out.old) (O.pieces out.new) asked_lines (view job.now.script) job.now.bytes.items job.now.index result }
     ensures idle { V.begun vault.new ≡ None }
     ensures later { O.faults out.old ≤ O.faults out.new }
 {
@@ -58,9 +58,9 @@ fn play_export<V: Vault, O: Sink>(alloc: Global, job: &Job, vault: &mut V, out: 
     requires idle { V.begun vault.old ≡ None }
     requires sound { IsSound job.now.bytes.items job.now.index }
     requires inside { IsInside (view job.now.script) job.now.index }
-    ensures plays { PlaysExport V.tells (V.faults vault.old, V.faults vault.new) (V.file vault.old) (V.file vault.new) O.tells (O.faults out.old, O.faults out.new) (O.contents out.old) (O.contents out.new) (export_lines job.now.script.len) (view job.now.script) job.now.bytes.items job.now.index result }
+    ensures plays { PlaysExport V.tells (V.faults vault.old, V.faults vault.new) (V.file vault.old) (V.file vault.new) O.tells (O.faults out.old, O.faults out.new) (O.pieces out.old) (O.pieces out.new) (export_lines job.now.script.len) (view job.now.script) job.now.bytes.items job.now.index result }
     ensures asked { IsUntouched V.tells (V.faults vault.old, V.faults vault.new) (V.file vault.old) (V.file vault.new)
-        ⊎ PutsFirst O.tells (O.contents out.old) (O.contents out.new) (ok_line job.now.script.len) }
+        ⊎ PutsFirst O.tells (O.pieces out.old) (O.pieces out.new) (ok_line job.now.script.len) }
     ensures idle { V.begun vault.new ≡ None }
 {
     match say_made(out, ok_line(alloc, job.script.len)) {
@@ -71,7 +71,7 @@ fn play_export<V: Vault, O: Sink>(alloc: Global, job: &Job, vault: &mut V, out: 
 
 /// Refuses an insert past the clip's end, and the export of the empty timeline.
 fn play_refusal<O: Sink>(out: &mut O) -> u8
-    ensures { PlaysRefusal O.tells (O.faults out.old, O.faults out.new) (O.contents out.old) (O.contents out.new) result }
+    ensures { PlaysRefusal O.tells (O.faults out.old, O.faults out.new) (O.pieces out.old) (O.pieces out.new) result }
 {
     match say_refused(out) {
         Ok(()) => 0,
@@ -83,7 +83,7 @@ fn play_refusal<O: Sink>(out: &mut O) -> u8
 pub fn play<V: Vault, O: Sink>(alloc: Global, job: &Job, vault: &mut V, out: &mut O) -> u8
     requires idle { V.begun vault.old ≡ None }
     requires sound { IsSound job.now.bytes.items job.now.index }
-    ensures plays { Plays V.tells (V.faults vault.old, V.faults vault.new) (V.file vault.old) (V.file vault.new) O.tells (O.faults out.old, O.faults out.new) (O.contents out.old) (O.contents out.new) (view job.now.script) job.now.bytes.items job.now.index result }
+    ensures plays { Plays V.tells (V.faults vault.old, V.faults vault.new) (V.file vault.old) (V.file vault.new) O.tells (O.faults out.old, O.faults out.new) (O.pieces out.old) (O.pieces out.new) (view job.now.script) job.now.bytes.items job.now.index result }
     ensures idle { V.begun vault.new ≡ None }
 {
     if job.script.len as usize <= job.index.packets.as_slice().len() {

@@ -1,3 +1,4 @@
 pub mod FileLemmas
 pub mod PlanLemmas
 pub mod StreamLemmas
+pub mod PieceLemmas

@@ -2,3 +2,4 @@ pub mod FaultPlan
 pub mod FileList
 pub mod Outside
 pub mod Stream
+pub mod Pieces

@@ -1,6 +1,6 @@
 -- What a call to the outside may do: to the bytes, to the count of faults, and which answer has which cause.
 -- An object that tells its contents is known byte by byte; of one that doesn't, only the count and what is begun are known.
-use Rattle.std.specs.Prelude.{◌≡◌, ◌≢◌, ◌⊎◌, ℕ, ◌+◌, ◌-◌, ◌<◌, ◌≤◌, ◌^◌, min, List, [], ◌++◌, length, take, Option, Some, None, Result, Ok, Err}
+use Rattle.std.specs.Prelude.{◌≡◌, ◌≢◌, ◌⊎◌, ℕ, ◌+◌, ◌-◌, ◌<◌, ◌≤◌, ◌^◌, min, List, [], ◌∷◌, ◌++◌, length, take, Option, Some, None, Result, Ok, Err}
 use Rattle.tl_ports.specs.declared.fault.FetchFault.{FetchFault}
 use Rattle.tl_ports.specs.declared.fault.FetchFault.TheVariants as fetching
 use Rattle.tl_ports.specs.declared.fault.PutFault.{PutFault}
@@ -47,6 +47,11 @@ FetchedByCause tells kept limit before now (Err fault) = FetchHasCause tells kep
 abbrev pub Adds : (before after piece : List ℕ) → Result Unit PutFault → Type 0
 Adds before after piece (Ok done) = after ≡ before ++ piece
 Adds before after piece (Err fault) = (count : ℕ) × (after ≡ before ++ take count piece)
+
+-- A piece was put, whole, or after a refusal some front of it or nothing: one call puts one piece.
+abbrev pub PutsPiece : (before after : List (List ℕ)) (piece : List ℕ) → Result Unit PutFault → Type 0
+PutsPiece before after piece (Ok done) = after ≡ before ++ piece ∷ []
+PutsPiece before after piece (Err fault) = (after ≡ before) ⊎ ((count : ℕ) × (after ≡ before ++ take count piece ∷ []))
 
 -- After `begin`: at `Ok` the name is begun and its file is empty; after a refusal none is begun and the named file is as before or empty.
 abbrev pub Begins : (tells : Type 0) (name : List ℕ) (begun : Option (List ℕ)) (before after : Option (List ℕ)) → Result Unit PutFault → Type 0

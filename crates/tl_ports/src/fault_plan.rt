@@ -28,7 +28,7 @@ impl FaultPlan {
     }
 
     /// Counts a call, and says whether it is to fail. The fault isn't counted yet.
-    fn next_call(&mut self) -> bool
+    pub(crate) fn next_call(&mut self) -> bool
         ensures fails { IsTrue result ↔ FailsNext self.old }
         ensures counted { CountsCall self.old self.new }
         ensures faults { self.new.faults ≡ self.old.faults }

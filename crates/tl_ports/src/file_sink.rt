@@ -34,7 +34,7 @@ impl<'a, R: Files> FileSink<'a, R> {
 impl<R: Files> Sink for FileSink<'_, R> {
     ghost tells = { ⊥ };
 
-    ghost contents = { λ sink. [] };
+    ghost pieces = { λ sink. [] };
 
     ghost faults = { λ sink. sink.faults };
 

@@ -1,8 +1,10 @@
 //! A sink in memory.
 
-ghost use Rattle.std.specs.Prelude.{◌≡◌, ◌≤◌, []};
-ghost use Rattle.tl_ports.specs.Outside.{Adds, PutHasCause};
-ghost use Rattle.tl_ports.specs.FaultPlan.{FailsNext, CountsCall, IsFresh, PutsByPlan, CountsPut};
+ghost use Rattle.std.specs.Prelude.{◌≡◌, ◌≤◌, [], length, sum};
+ghost use Rattle.std.specs.List.{concat};
+ghost use Rattle.tl_ports.specs.Outside.{PutsPiece, PutHasCause};
+ghost use Rattle.tl_ports.specs.FaultPlan.{FailsNext, CountsCall, IsFresh, CountsPut};
+ghost use Rattle.tl_ports.specs.Pieces.{cut, PutsPieceByPlan};
 
 use crate::fault::PutFault;
 use crate::fault_plan::FaultPlan;
@@ -13,26 +15,30 @@ use std::alloc::Global;
 #[derive(Debug, Drop)]
 pub struct MemSink {
     bytes: Vec<u8>,
+    /// How many bytes each piece has.
+    lens: Vec<usize>,
     /// Which puts fail.
     pub plan: FaultPlan,
+    ghost whole: { sum lens.items ≡ length bytes.items },
 }
 
 impl MemSink {
     /// A sink with no bytes, in which the puts of these numbers, counted from 1, are to fail.
     pub fn start(alloc: Global, fail: Vec<u64>) -> MemSink
-        ensures empty { ⟦<MemSink as Sink>⟧.contents result ≡ [] }
+        ensures empty { ⟦<MemSink as Sink>⟧.pieces result ≡ [] }
         ensures plan { IsFresh result.plan fail.items }
         ensures faults { ⟦<MemSink as Sink>⟧.faults result ≡ 0 }
     {
         MemSink {
             bytes: Vec::new(alloc),
+            lens: Vec::new(alloc),
             plan: FaultPlan::new(fail),
         }
     }
 
-    /// The bytes that were put.
+    /// The bytes that were put, of all pieces.
     pub fn bytes(&self) -> &[u8]
-        ensures { result.now ≡ ⟦<MemSink as Sink>⟧.contents self.now }
+        ensures { result.now ≡ concat (⟦<MemSink as Sink>⟧.pieces self.now) }
     {
         self.bytes.as_slice()
     }
@@ -41,22 +47,36 @@ impl MemSink {
 impl Sink for MemSink {
     ghost tells = { Unit {0} };
 
-    ghost contents = { λ sink. sink.bytes.items };
+    ghost pieces = { λ sink. cut sink.bytes.items sink.lens.items };
 
     ghost faults = { λ sink. sink.plan.faults };
 
     /// Where its number is in the list it adds the first half of the piece and answers `Failed`.
     fn put(&mut self, bytes: &[u8]) -> Result<(), PutFault>
-        ensures added { Adds (⟦<MemSink as Sink>⟧.contents self.old)
-            (⟦<MemSink as Sink>⟧.contents self.new) bytes.now result }
+        ensures added { PutsPiece (⟦<MemSink as Sink>⟧.pieces self.old)
+            (⟦<MemSink as Sink>⟧.pieces self.new) bytes.now result }
         ensures later { ⟦<MemSink as Sink>⟧.faults self.old ≤ ⟦<MemSink as Sink>⟧.faults self.new }
         ensures cause { PutHasCause (⟦<MemSink as Sink>⟧.faults self.old) (⟦<MemSink as Sink>⟧.faults self.new) result }
-        ensures puts { PutsByPlan (FailsNext self.old.plan) (⟦<MemSink as Sink>⟧.contents self.old)
-            (⟦<MemSink as Sink>⟧.contents self.new) bytes.now result }
+        ensures puts { PutsPieceByPlan (FailsNext self.old.plan) (⟦<MemSink as Sink>⟧.pieces self.old)
+            (⟦<MemSink as Sink>⟧.pieces self.new) bytes.now result }
         ensures counted { CountsCall self.old.plan self.new.plan }
         ensures faults { CountsPut self.old.plan.faults self.new.plan.faults result }
     {
-        self.plan.put(bytes, &mut self.bytes)?;
-        Ok(())
+        if self.lens.reserve(1).is_err() {
+            self.plan.next_call();
+            return Err(PutFault::NoMemory);
+        }
+        let before = self.bytes.len();
+        match self.plan.put(bytes, &mut self.bytes) {
+            Ok(()) => {
+                self.lens.push_reserved(self.bytes.len() - before);
+                Ok(())
+            }
+            Err(PutFault::Failed) => {
+                self.lens.push_reserved(self.bytes.len() - before);
+                Err(PutFault::Failed)
+            }
+            Err(PutFault::NoMemory) => Err(PutFault::NoMemory),
+        }
     }
 }

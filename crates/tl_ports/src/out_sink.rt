@@ -26,7 +26,7 @@ impl<'a, R: Print> OutSink<'a, R> {
 impl<R: Print> Sink for OutSink<'_, R> {
     ghost tells = { ⊥ };
 
-    ghost contents = { λ sink. [] };
+    ghost pieces = { λ sink. [] };
 
     ghost faults = { λ sink. sink.faults };
 

@@ -1,7 +1,7 @@
 //! The traits to the outside: files to read, files to write, and a sink for bytes.
 
 ghost use Rattle.std.specs.Prelude.{◌≡◌, ℕ, ◌≤◌, List, [], Option, Some, None, IsSome};
-ghost use Rattle.tl_ports.specs.Outside.{Fetches, FetchedByCause, Adds, Begins, PutHasCause, KeepsOthers, KeepsBegun};
+ghost use Rattle.tl_ports.specs.Outside.{Fetches, FetchedByCause, Adds, PutsPiece, Begins, PutHasCause, KeepsOthers, KeepsBegun};
 
 use crate::fault::{FetchFault, PutFault};
 
@@ -74,15 +74,16 @@ pub trait Sink {
     /// Whether a sink of this kind tells its bytes: always (`Unit`) or never (`⊥`).
     ghost tells: { Type 0 };
 
-    /// The bytes that were put, where the sink tells them.
-    ghost contents: { Self → List ℕ };
+    /// The bytes that were put, piece by piece, where the sink tells them: one piece of each call, and none of
+    /// a refused call that put nothing.
+    ghost pieces: { Self → List (List ℕ) };
 
     /// How many faults there were.
     ghost faults: { Self → ℕ };
 
     /// Adds the bytes. After a refusal some front of them was added.
     fn put(&mut self, bytes: &[u8]) -> Result<(), PutFault>
-        ensures added { tells → Adds (contents self.old) (contents self.new) bytes.now result }
+        ensures added { tells → PutsPiece (pieces self.old) (pieces self.new) bytes.now result }
         ensures later { faults self.old ≤ faults self.new }
         ensures cause { PutHasCause (faults self.old) (faults self.new) result };
 }

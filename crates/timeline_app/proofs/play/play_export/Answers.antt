@@ -1,4 +1,4 @@
-use Rattle.std.proofs.Common.{ℕ, List, ◌++◌, take, refl, inl, inr, ap, ◌∙◌, append_assoc}
+use Rattle.std.proofs.Common.{ℕ, List, [], ◌∷◌, ◌++◌, refl, inl, inr, ap, ◌∙◌, append_assoc}
 use Rattle.timeline_app.specs.Reading.{view}
 use Rattle.timeline_app.specs.Lines.{ok_line}
 use Rattle.timeline_app.specs.Run.{asked_lines, export_lines}
@@ -16,7 +16,7 @@ returns-in-Ok-clause-plays g c =
     let mid = c.say_made.new.out in
     let new = c.play_asked.new.out in
     export_after V.tells (V.faults c.args.vault.now, V.faults vault) (V.file c.args.vault.now) (V.file vault) O.tells (O.faults old) (O.faults mid) (O.faults new)
-    (O.contents old) (O.contents mid) (O.contents new) (ok_line job.script.len) asked_lines (export_lines job.script.len) (view job.script) job.bytes.items job.index c.play_asked.result
+    (O.pieces old) (O.pieces mid) (O.pieces new) (ok_line job.script.len ∷ []) asked_lines (export_lines job.script.len) (view job.script) job.bytes.items job.index c.play_asked.result
     (c.in-Ok.ensures.said (ok_line job.script.len) c.ok_line.ensures) (λ ending. refl) c.play_asked.ensures.plays
 
 pub returns-in-Err-clause-plays : goal.returns-in-Err-clause-plays
@@ -29,11 +29,11 @@ returns-in-Err-clause-plays g c =
     let new = c.say_made.new.out in
     let fault = c.in-Err.fault in
     let faults : ℕ × ℕ = (O.faults old, O.faults new) in
-    let both = says_first O.tells (O.contents old) (O.contents new) (ok_line job.script.len) (asked_lines endings.NoMemory) faults fault (c.in-Err.ensures.said (ok_line job.script.len) c.ok_line.ensures) in
+    let both = says_first O.tells (O.pieces old) (O.pieces new) (ok_line job.script.len ∷ []) (asked_lines endings.NoMemory) faults fault (c.in-Err.ensures.said (ok_line job.script.len) c.ok_line.ensures) in
     rw c.fault_status.ensures
-    (export_stopped V.tells (V.faults c.args.vault.now, V.faults c.args.vault.now) file file O.tells faults (O.contents old) (O.contents new)
+    (export_stopped V.tells (V.faults c.args.vault.now, V.faults c.args.vault.now) file file O.tells faults (O.pieces old) (O.pieces new)
     (export_lines job.script.len) (view job.script) job.bytes.items job.index (export_lines job.script.len endings.NoMemory) endings.NoMemory fault both (λ told. inl refl) (λ told other ne. refl)
-    (inl refl) (refused_front O.tells (O.contents old) (O.contents new) (export_lines job.script.len endings.NoMemory) faults fault both))
+    (inl refl) (refused_front O.tells (O.pieces old) (O.pieces new) (export_lines job.script.len endings.NoMemory) faults fault both))
 
 pub returns-in-Ok-clause-asked : goal.returns-in-Ok-clause-asked
 returns-in-Ok-clause-asked g c =
@@ -41,10 +41,9 @@ returns-in-Ok-clause-asked g c =
     let len = c.args.job.now.script.len in
     let said = c.in-Ok.ensures.said (ok_line len) c.ok_line.ensures in
     let plays = c.play_asked.ensures.plays in
-    let lines : List ℕ = asked_lines plays.said.0 in
     inr (λ told.
     let front = plays.said.2 told in
-    (take front.0 lines, front.1 ∙ ap (λ (x : List ℕ). x ++ take front.0 lines) (said.0 told) ∙ append_assoc (O.contents c.args.out.now) (ok_line len) (take front.0 lines)))
+    (front.0, front.1 ∙ ap (λ (x : List (List ℕ)). x ++ front.0) (said.0 told) ∙ append_assoc (O.pieces c.args.out.now) (ok_line len ∷ []) front.0))
 
 pub returns-in-Err-clause-asked : goal.returns-in-Err-clause-asked
 returns-in-Err-clause-asked g c = inl (refl, λ told other. refl)

@@ -4,4 +4,4 @@ use Rattle.timeline_app.proofs.play.play_refusal.Goals as goal
 pub returns-in-Ok : goal.returns-in-Ok
 returns-in-Ok g c =
     let O = g.O.Sink in
-    refusal_done O.tells (O.faults c.args.out.now, O.faults c.say_refused.new.out) (O.contents c.args.out.now) (O.contents c.say_refused.new.out) c.in-Ok.ensures.said
+    refusal_done O.tells (O.faults c.args.out.now, O.faults c.say_refused.new.out) (O.pieces c.args.out.now) (O.pieces c.say_refused.new.out) c.in-Ok.ensures.said

@@ -10,4 +10,4 @@ returns g c =
     let new = c.say_stop-said.new.out in
     let stop = c.args.stop.now in
     rw (c.status_after.ensures ∙ ap (status_after c.say_stop-said.result) c.stop_status.ensures)
-    (stops_with O.tells (O.faults old, O.faults new) (O.contents old) (O.contents new) (stop_line stop) c.say_stop-said.result (stop_status stop) c.say_stop-said.ensures)
+    (stops_with O.tells (O.faults old, O.faults new) (O.pieces old) (O.pieces new) (stop_line stop) c.say_stop-said.result (stop_status stop) c.say_stop-said.ensures)

@@ -1,4 +1,4 @@
-use Rattle.std.proofs.Common.{ℕ, List, subst}
+use Rattle.std.proofs.Common.{ℕ, List, [], ◌∷◌, subst}
 use Rattle.timeline_app.specs.Lines.{usage_line}
 use Rattle.timeline_app.specs.Run.{Says}
 use Rattle.timeline_app.proofs.Running.{stops_with}
@@ -10,5 +10,5 @@ returns g c =
     let old = c.args.out.now in
     let new = c.say-said.new.out in
     rw c.status_after.ensures
-    (stops_with O.tells (O.faults old, O.faults new) (O.contents old) (O.contents new) usage_line c.say-said.result 2
-    (subst (λ (text : List ℕ). Says O.tells (O.contents old) (O.contents new) text (O.faults old, O.faults new) c.say-said.result) c.usage_line.ensures c.say-said.ensures.said))
+    (stops_with O.tells (O.faults old, O.faults new) (O.pieces old) (O.pieces new) usage_line c.say-said.result 2
+    (subst (λ (text : List ℕ). Says O.tells (O.pieces old) (O.pieces new) (text ∷ []) (O.faults old, O.faults new) c.say-said.result) c.usage_line.ensures c.say-said.ensures.said))

@@ -11,4 +11,4 @@ returns-clause-faulty_only g c =
     λ name named told calm faulty.
     three_or_five (script_name (map string_bytes c.args.words.now)) name T.tells (T.faults c.args.store.now, T.faults c.run.new.store) (T.file c.args.store.now)
     V.tells (V.faults c.args.vault.now, V.faults c.run.new.vault) (V.file c.args.vault.now) (V.file c.run.new.vault)
-    O.tells (O.faults c.args.out.now, O.faults c.run.new.out) (O.contents c.args.out.now) (O.contents c.run.new.out) c.run.result c.run.ensures.runs named told calm faulty
+    O.tells (O.faults c.args.out.now, O.faults c.run.new.out) (O.pieces c.args.out.now) (O.pieces c.run.new.out) c.run.result c.run.ensures.runs named told calm faulty
