@@ -7,7 +7,6 @@ use Rattle.ebml_core.specs.declared.vint.Size.TheVariants.{Known, Unknown}
 use Rattle.ebml_core.specs.declared.vint.VintFault.{VintFault}
 use Rattle.ebml_core.specs.declared.element.Element.{Element}
 use Rattle.ebml_core.specs.declared.element.Header.{Header}
-use Rattle.ebml_core.specs.declared.element.EbmlFault.{EbmlFault}
 use Rattle.ebml_core.specs.declared.element.EbmlWhy.TheVariants as whys
 use Rattle.ebml_core.specs.Spelling.{unsigned_of, size_of, IsId, IsSize, IsVint}
 use Rattle.ebml_core.specs.Reading.{id_at, size_at, header_at, sized, laid, found, element_at}
