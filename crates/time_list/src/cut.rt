@@ -1,22 +1,26 @@
 //! A list of segments, cut at a frame.
 
-ghost use Rattle.std.specs.Prelude.{◌≡◌, ℕ, ◌+◌, ◌<◌, ◌∷◌, ◌++◌, length, slice_get, Some, OnOk, IfOk};
+ghost use Rattle.std.specs.Prelude.{◌≡◌, ℕ, ◌+◌, ◌<◌, ◌≤◌, ◌∷◌, ◌++◌, length, slice_get, Some, OnOk, IfOk};
 ghost use Rattle.time_list.specs.Cells.{cells, recipes, is_among};
 ghost use Rattle.time_list.specs.Pieces.{ArePieces, fronts, backs};
 
 use crate::piece;
 use std::alloc::{AllocError, Global};
-use tl_model::{Recipe, Segment};
+use std::sync::ledger::Ledger;
+use tl_model::{Recipe, Segment, Steps};
 
-/// The recipe of frame `n`.
+/// The recipe of frame `n`. Each segment that is looked at is a step.
 #[tactic(auto, using(crate::proofs::Steps::recipe_steps))]
-pub(crate) fn recipe_at(items: &[Segment], n: u32) -> Recipe
+pub(crate) fn recipe_at<K: Ledger>(items: &[Segment], n: u32, steps: &mut Steps<K>) -> Recipe
     requires pieces { ArePieces items.now }
     requires at { n < length (cells items.now) }
-    ensures { slice_get (recipes (cells items.now)) n ≡ Some result }
+    ensures recipe { slice_get (recipes (cells items.now)) n ≡ Some result }
+    ensures counted { steps.old < steps.new }
+    ensures few { steps.new ≤ steps.old + length items.now }
 {
     let mut left = n;
     for segment in items {
+        steps.tick();
         if left < segment.len {
             return piece::recipe_of(segment, left);
         }

@@ -1,6 +1,6 @@
 //! A timeline under edits.
 
-ghost use Rattle.std.specs.Prelude.{◌≡◌, ℕ, ◌<◌, List, [], length, slice_get, Some, Ok};
+ghost use Rattle.std.specs.Prelude.{◌≡◌, ℕ, ◌+◌, ◌<◌, ◌≤◌, List, [], length, slice_get, Some, Ok};
 ghost use Rattle.tl_model.specs.Edit.{IsEdit};
 ghost use Rattle.time_list.specs.Cells.{Cell, segment_count, recipes, is_among};
 ghost use Rattle.time_list.specs.Apply.{apply, Applies, IsSound};
@@ -35,10 +35,12 @@ pub trait Lane: Drop {
     fn segments(&self) -> u32
         ensures { result ≡ segment_count (cells self.now) };
 
-    /// The recipe of frame `n`.
+    /// The recipe of frame `n`. It counts at least one step, and at most one a segment.
     fn recipe_at<K: Ledger>(&self, n: u32, steps: &mut Steps<K>) -> Recipe
         requires { n < length (cells self.now) }
-        ensures { slice_get (recipes (cells self.now)) n ≡ Some result };
+        ensures recipe { slice_get (recipes (cells self.now)) n ≡ Some result }
+        ensures counted { steps.old < steps.new }
+        ensures few { steps.new ≤ steps.old + segment_count (cells self.now) };
 
     /// Whether some frame has that recipe.
     fn uses(&self, recipe: Recipe) -> bool

@@ -110,8 +110,9 @@ impl Lane for ListLane {
         self.items.len() as u32
     }
 
-    fn recipe_at<K: Ledger>(&self, n: u32, _steps: &mut Steps<K>) -> Recipe {
-        cut::recipe_at(&self.items, n)
+    #[tactic(auto, using(crate::proofs::Steps::lane_steps))]
+    fn recipe_at<K: Ledger>(&self, n: u32, steps: &mut Steps<K>) -> Recipe {
+        cut::recipe_at(&self.items, n, steps)
     }
 
     fn uses(&self, recipe: Recipe) -> bool {
