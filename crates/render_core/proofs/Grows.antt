@@ -113,6 +113,12 @@ replies {M} library old mid m limit journal spare what told v same stands e =
     e ∙ ap (reply (library m.library) what) (state_from library old mid m limit journal spare v same stands)
     ∙ ap (λ (x : M). reply (library x) what (state_of library old)) (ap (λ (b : BoardOf M). b.library) v ∙ same.library)
 
+-- what the machine tells is told in the state that the board stands for
+pub told_at : {M F : Type 0} (library : M → Library F) (old : BoardOf M) (m : MachineOf M) (limit : ℕ) (journal : List Entry) (spare : ℕ) (what : Act) (told : Reply F) → view_of m limit journal spare ≡ old → m.state ≡ state_after (library m.library) m.cache journal → reply (library m.library) what m.state ≡ told → reply (library old.library) what (state_of library old) ≡ told
+told_at library old m limit journal spare what told v stands e =
+    let same : IsSame old old = record { library = refl; cache = refl; limit = refl; journal = refl; room = omega arith } in
+    sym (replies library old old m limit journal spare what told v same stands (sym e))
+
 pub grown : {M F : Type 0} (library : M → Library F) (om nm : MachineOf M) (at pass : ℕ) (what : Act) (journal longer : List Entry) (limit owing room owing' room' : ℕ) → IsBoard (library om.library) om.cache om.state journal limit owing room → IsLegal pass what om.state → at ≡ length journal + 1 → nm ≡ in_state (step (library om.library) om.cache at pass what om.state) om → longer ≡ journal ++ record { pass = pass; act = what } ∷ [] → owing' ≡ owed (step (library om.library) om.cache at pass what om.state) → length journal + 1 + owing' ≤ limit → length journal + 1 + owing' ≤ room' → IsBoard (library nm.library) nm.cache nm.state longer limit owing' room'
 grown {M} library om nm at pass what journal longer limit owing room owing' room' b legal here turn is owes within kept =
     let next = step (library om.library) om.cache at pass what om.state in

@@ -85,6 +85,11 @@ open_base {M} {F} m at i jobs results job e shut h f =
 pub ends_open : {M F : Type 0} (m now : MachineOf M) (at i j : ℕ) (jobs : List Job) (results : List Recipe) (job : Job) → m ≡ now → i ≡ j → slice_get m.state.jobs i ≡ Some job → job.closed ≡ None → jobs ≡ update i (ended at) m.state.jobs → results ≡ take m.cache (job.recipe ∷ m.state.filed) → (in_state (record { line = m.state.line; jobs = jobs; filed = results; is_stopped = m.state.is_stopped }) m ≡ in_state (filed now.cache at j (slice_get now.state.jobs j) now.state) now) × (◌≡◌ {A = Reply F} Filed (end_reply Filed (slice_get now.state.jobs j)))
 ends_open m now at i j jobs results job v idx e shut h f = carried m now (record { line = m.state.line; jobs = jobs; filed = results; is_stopped = m.state.is_stopped }) Filed at i j v idx (open_base m at i jobs results job e shut h f)
 
+pub told_open : {M F : Type 0} (m now : MachineOf M) (i j : ℕ) (job : Job) → m ≡ now → i ≡ j → slice_get m.state.jobs i ≡ Some job → job.closed ≡ None → end_reply {F = F} Filed (slice_get now.state.jobs j) ≡ Filed
+told_open {M} {F} m now i j job v idx e shut =
+    let item = held_inside now m j i job (sym v) (sym idx) e in
+    ap (λ (o : Option Job). end_reply {F = F} Filed o) item ∙ ap (λ (o : Option ℕ). unless_closed {F = F} Filed o) shut
+
 pub recipes-filed : {M : Type 0} (n : ℕ) (r : RenderedOf M) (rs results : List (RenderedOf M)) (recipe : Recipe) → results ≡ take n (r ∷ rs) → r.recipe ≡ recipe → recipes_of results ≡ take n (recipe ∷ recipes_of rs)
 recipes-filed {M} n r rs results recipe e is =
     ap recipes_of e ∙ sym (take-map (λ (x : RenderedOf M). x.recipe) n (r ∷ rs)) ∙ ap (λ (x : Recipe). take n (x ∷ recipes_of rs)) is

@@ -10,7 +10,7 @@ ghost use Rattle.render_core.specs.declared.reply.Full.TheVariants as full;
 ghost use Rattle.render_core.specs.State.{owed, Holds, IsOrderly};
 ghost use Rattle.render_core.specs.Claim.{EndsNone};
 ghost use Rattle.render_core.specs.Calls.{entered, Runs, Journals};
-ghost use Rattle.render_core.specs.Step.{IsJournal, state_after, is_filed, Silent};
+ghost use Rattle.render_core.specs.Step.{IsJournal, state_after, is_filed, reply, Filed, Silent};
 ghost use Rattle.tl_model.specs.declared.recipe.Recipe.{Recipe};
 ghost use Rattle.time_list.specs.Cells.{recipes};
 ghost use Rattle.render_core.specs.Board.{BoardOf, state_of, IsSame, HasRoom, MakesRoom, RoomFor, CallOf, Makes, Does, Pays, Claims, IfClaimed, of_edit, of_want, of_cancel, of_file, of_release, of_play, IfPending};
@@ -223,8 +223,8 @@ impl<M: Media, L: Lane> Board<M, L> {
         Ok(ClaimReply::Claimed(claim))
     }
 
-    /// Ends a claim with its result, which is filed exactly where the job is still open. After want of memory the
-    /// claim and the result come back.
+    /// Ends a claim with its result, which is filed exactly where the job is still open. Only at an open job can memory
+    /// be wanting; the claim and the result then come back.
     pub fn file(
         &mut self,
         by: u32,
@@ -233,7 +233,8 @@ impl<M: Media, L: Lane> Board<M, L> {
     ) -> Result<FileReply, (Claim, Rendered<M>, AllocError)>
         requires held { Holds (state_of M.library self.old) by claim.job claim.recipe }
         requires rendered { rendered ≡ record { recipe = claim.recipe; library = self.old.library } }
-        ensures { MatchResult result (λ given. Pays M.library self.old self.new by (act.File claim.job) of_file given) (λ back. (self.new ≡ self.old) × (back.0 ≡ claim) × (back.1 ≡ rendered)) }
+        ensures done { MatchResult result (λ given. Pays M.library self.old self.new by (act.File claim.job) of_file given) (λ back. (self.new ≡ self.old) × (back.0 ≡ claim) × (back.1 ≡ rendered)) }
+        ensures open_job { OnErr result (reply (M.library self.old.library) (act.File claim.job) (state_of M.library self.old) ≡ Filed) }
     {
         let job = claim.job();
         let at = self.journal.len() as u64 + 1;

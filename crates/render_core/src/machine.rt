@@ -8,7 +8,7 @@ ghost use Rattle.tl_model.specs.Media.{RenderedOf, CanRender};
 ghost use Rattle.tl_model.specs.declared.journal.Act.TheVariants as act;
 ghost use Rattle.time_list.specs.Cells.{recipes};
 ghost use Rattle.render_core.specs.State.{start, is_queued, Holds};
-ghost use Rattle.render_core.specs.Step.{step, reply, claimed, is_filed};
+ghost use Rattle.render_core.specs.Step.{step, reply, claimed, is_filed, Filed};
 ghost use Rattle.render_core.specs.Board.{Turns, of_edit, of_want, of_cancel, of_file, of_release, of_play, IfPending};
 ghost use Rattle.render_core.specs.Parts.{MachineOf, in_state, IsHeld};
 
@@ -150,7 +150,8 @@ impl<M: Media, L: Lane> Machine<M, L> {
         }
     }
 
-    /// Ends a job that a pass holds with its result, as entry `at`. After want of memory the claim and the result come back.
+    /// Ends a job that a pass holds with its result, as entry `at`. Only at an open job can memory be wanting; the claim
+    /// and the result then come back.
     pub(crate) fn file(
         &mut self,
         at: u64,
@@ -159,7 +160,8 @@ impl<M: Media, L: Lane> Machine<M, L> {
     ) -> Result<FileReply, (Claim, Rendered<M>)>
         requires held { IsHeld self.old.state claim }
         requires rendered { rendered ≡ record { recipe = claim.recipe; library = self.old.library } }
-        ensures { MatchResult result (λ given. (self.new ≡ in_state (step (M.library self.old.library) self.old.cache at 0 (act.File claim.job) self.old.state) self.old) × (of_file given ≡ reply (M.library self.old.library) (act.File claim.job) self.old.state)) (λ back. (self.new ≡ self.old) × (back.0 ≡ claim) × (back.1 ≡ rendered)) }
+        ensures done { MatchResult result (λ given. (self.new ≡ in_state (step (M.library self.old.library) self.old.cache at 0 (act.File claim.job) self.old.state) self.old) × (of_file given ≡ reply (M.library self.old.library) (act.File claim.job) self.old.state)) (λ back. (self.new ≡ self.old) × (back.0 ≡ claim) × (back.1 ≡ rendered)) }
+        ensures open_job { OnErr result (reply (M.library self.old.library) (act.File claim.job) self.old.state ≡ Filed) }
     {
         let Claim { job, recipe } = claim;
         let place = (job - 1) as usize;
