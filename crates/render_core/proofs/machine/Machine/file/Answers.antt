@@ -10,6 +10,12 @@ use Rattle.render_core.specs.Parts.{AreShown}
 use Rattle.render_core.proofs.Renders.{shown-let_go, shown-ended}
 use Rattle.render_core.proofs.machine.Machine.file.Goals as goal
 
+pub let_go-requires : goal.let_go-requires
+let_go-requires g c =
+    let idx = ap (λ (cl : ClaimOf). cl.job - 1) c.claim.view_is in
+    let held = held_inside _ c.args.self.now (c.claim.inside.job - 1) (c.args.claim.job - 1) _ c.self.view_is idx c.requires.held.1.is_job in
+    slice_get_within c.self.inside.jobs.items (c.claim.inside.job - 1) _ held
+
 pub invariant_of-self : goal.invariant_of-self
 invariant_of-self g c = record {
   sound = c.self.invariant.sound;
