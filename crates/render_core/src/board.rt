@@ -116,11 +116,13 @@ impl<M: Media, L: Lane> Board<M, L> {
         self.journal.capacity() as u64 - (self.journal.len() as u64 + self.owed)
     }
 
-    /// Makes room for `n` more entries beside those owed.
+    /// Makes room for `n` more entries beside those owed. Room that is there is left as it is.
     pub fn reserve(&mut self, n: u32) -> Result<(), AllocError>
         ensures room { OnOk result (n ≤ self.new.spare) }
         ensures same { IsSame self.old self.new }
         ensures err { OnErr result (self.new.spare ≡ self.old.spare) }
+        ensures wanting { OnErr result (self.old.spare < n) }
+        ensures enough { n ≤ self.old.spare → self.new.spare ≡ self.old.spare }
     {
         if (n as u64) <= self.spare() {
             return Ok(());
@@ -202,6 +204,7 @@ impl<M: Media, L: Lane> Board<M, L> {
     /// always be given back.
     pub fn claim(&mut self, by: u32) -> Result<ClaimReply, Full>
         ensures done { Claims M.library self.old self.new by result }
+        ensures sure { 2 ≤ self.old.spare → result ≢ Err full.NoMemory }
         ensures uses { 2 ≤ self.old.spare → IfClaimed result (λ claim. self.new.spare + 2 ≡ self.old.spare) }
         ensures held { IfClaimed result (λ claim. Holds (state_of M.library self.new) by claim.job claim.recipe) }
         ensures renders { IfClaimed result (λ claim. CanRender (M.library self.new.library) claim.recipe) }
