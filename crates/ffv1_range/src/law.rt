@@ -1,8 +1,11 @@
-//! The laws of the range coder, about its definitions alone.
-ghost use Rattle.std.specs.Prelude.{◌≡◌};
+//! The laws of the range coder, about its definitions alone, and what `clone` and `==` answer.
+ghost use Rattle.std.specs.Prelude.{◌≡◌, ℕ, List, true};
+ghost use Rattle.ffv1_range.specs.declared.reader.TooLong.{TooLong};
 ghost use Rattle.ffv1_range.specs.Usual.{default_state_transition};
 ghost use Rattle.ffv1_range.specs.Law.{ReadsOpenPart, ReadsClosedParts, ReadsSymbols, CodesInTurn, NoPrefix};
 
+use crate::reader::TooLong;
+use crate::states::States;
 use crate::transition::USUAL;
 
 /// The usual table is the one of the standard.
@@ -33,4 +36,11 @@ pub fn codes_in_turn()
 /// No spelling begins another, nor does one begin as a symbol that is too long.
 pub fn no_prefix()
     ensures { NoPrefix }
+{}
+
+/// The clone of a set of states is that set, and making it never fails. Each `TooLong` is equal to each.
+pub fn clone_and_eq_are_exact()
+    ensures clone { (set cloned : List ℕ) → ⟦<States as Clone>⟧.is_clone set cloned → cloned ≡ set }
+    ensures succeeds { (set : List ℕ) → ⟦<States as Clone>⟧.is_infallible set }
+    ensures too_long { (a b : TooLong) → ⟦<TooLong as PartialEq>⟧.eq a b ≡ true }
 {}

@@ -12,7 +12,8 @@ mod transition;
 mod writer;
 
 pub use law::{
-    codes_in_turn, no_prefix, reads_closed_part, reads_open_part, reads_symbols, usual_is_default,
+    clone_and_eq_are_exact, codes_in_turn, no_prefix, reads_closed_part, reads_open_part,
+    reads_symbols, usual_is_default,
 };
 pub use reader::{RangeReader, TooLong};
 pub use states::States;
