@@ -15,7 +15,7 @@ mod tables;
 
 pub use default::default_record;
 pub use fault::RecordFault;
-pub use law::record_reads_back;
+pub use law::{clone_and_eq_are_exact, record_reads_back};
 pub use record::{Coder, Record};
 pub use tables::TableSet;
 
