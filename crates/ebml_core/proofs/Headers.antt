@@ -10,8 +10,9 @@ use Rattle.ebml_core.specs.declared.vint.VintFault.TheVariants.{Short, BadVint}
 use Rattle.ebml_core.specs.declared.element.Element.{Element}
 use Rattle.ebml_core.specs.declared.element.Header.{Header}
 use Rattle.ebml_core.specs.declared.element.EbmlFault.{EbmlFault}
+use Rattle.ebml_core.specs.declared.element.EbmlWhy.TheVariants as whys
 use Rattle.ebml_core.specs.Spelling.{unsigned_of, size_of, Piece, IsPiece, spelling, element_of, IsSize, IsVint}
-use Rattle.ebml_core.specs.Reading.{◌>>=◌, octet_count, vint_at, id_at, size_at, header_at, sized, laid, found, element_at}
+use Rattle.ebml_core.specs.Reading.{◌>>=◌, octet_count, vint_at, id_at, size_at, header_at, why_of, sized, laid, found, element_at}
 use Rattle.ebml_core.proofs.Numbers.{AreBytes, AreBytes-drop}
 use Rattle.ebml_core.proofs.Vints.{ok_is, passed, vint_takes, vint_again}
 use Rattle.ebml_core.proofs.Pieces.{spelling-some}
@@ -253,3 +254,27 @@ size_at-takes text size octets fits h =
 pub size_at-again : (octets rest : List ℕ) (size : Size) → IsSize octets size → size_at (octets ++ rest) ≡ Ok (size, length octets)
 unfolding size_at
 size_at-again octets rest size is = rw (vint_again 8 octets rest (omega arith) is.0, ← is.1) refl
+
+-- ---- a fault
+
+-- A fault stands at the place of its element, where there are bytes.
+pub element_at-fault : (place : ℕ) (text : List ℕ) (fault : EbmlFault) → element_at place text ≡ Err fault → (fault.at ≡ place) × (0 < length text)
+unfolding element_at
+element_at-fault place [] fault h = absurd cc
+element_at-fault place (octet ∷ rest) fault h = (at_place (header_at (octet ∷ rest)) h, omega arith)
+  where
+    found_at : (r : Result Element EbmlFault) → ((f : EbmlFault) → r ≡ Err f → f.at ≡ place) → found r ≡ Err fault → fault.at ≡ place
+    found_at (Ok e) at e_is = absurd cc
+    found_at (Err f) at e_is = let same : f ≡ fault = cc in ap (λ (x : EbmlFault). x.at) (sym same) ∙ at f refl
+
+    sized_at : (h : Header) (size : Size) (f : EbmlFault) → sized place (suc (length rest)) h size ≡ Err f → f.at ≡ place
+    sized_at h Unknown f is = absurd cc
+    sized_at h (Known size) f is = by_test (ltb (suc (length rest)) (h.octets + size)) _ is
+      where
+        by_test : (b : Bool) (e : Element) → cond b (Err (record { at = place; why = whys.Overrun })) (Ok e) ≡ Err f → f.at ≡ place
+        by_test true e is = let same : record { at = place; why = whys.Overrun } ≡ f = cc in ap (λ (x : EbmlFault). x.at) (sym same)
+        by_test false e is = absurd cc
+
+    at_place : (r : Result Header VintFault) → found (laid place (suc (length rest)) r) ≡ Err fault → fault.at ≡ place
+    at_place (Err v) is = found_at (laid place (suc (length rest)) (Err v)) (λ f e. let same : record { at = place; why = why_of v } ≡ f = cc in ap (λ (x : EbmlFault). x.at) (sym same)) is
+    at_place (Ok h) is = found_at (sized place (suc (length rest)) h h.size) (sized_at h h.size) is

@@ -75,3 +75,10 @@ pub record Holds (bytes : List ℕ) (from to : ℕ) (elements : List Element) : 
   pub pieces : List Piece
   pub spelled : Spells (between bytes from to) pieces
   pub placed : elements ≡ elements_from from pieces
+
+-- From one place up to another the bytes are these elements, all of known size, and behind them more bytes that begin with no such element.
+pub record IsBroken (bytes : List ℕ) (from to : ℕ) (elements : List Element) (at : ℕ) : Type 0 where
+  pub order : from ≤ at
+  pub within : at < to
+  pub before : Holds bytes from at elements
+  pub none_there : (p : Piece) (rest : List ℕ) → IsPiece p → between bytes at to ≡ spelling p ++ rest → ⊥

@@ -54,6 +54,11 @@ abbrev pub whole : List Element → Walk
 whole [] = ends
 whole (e ∷ es) = gives e (whole es)
 
+-- the walk that gives these elements, and then breaks at a fault
+abbrev pub broken : EbmlFault → List Element → Walk
+broken fault [] = breaks fault
+broken fault (e ∷ es) = gives e (broken fault es)
+
 -- what a walker has yet to give
 abbrev pub rest_of : Position → Walk
 rest_of p = walk p.place (ahead p)

@@ -2,7 +2,7 @@ use Rattle.std.proofs.Common.{ap, sym, ◌∙◌}
 use Rattle.ebml_core.specs.Spelling.{between}
 use Rattle.ebml_core.specs.Walking.{walk, whole}
 use Rattle.ebml_core.proofs.Numbers.{AreBytes-take, AreBytes-drop}
-use Rattle.ebml_core.proofs.Walks.{walk-lies, walk-again}
+use Rattle.ebml_core.proofs.Walks.{walk-lies, walk-again, walk-broken}
 use Rattle.ebml_core.proofs.laws.walk_is_spelling.Goals as goal
 
 pub returns-clause-walked : goal.returns-clause-walked
@@ -13,3 +13,6 @@ returns-clause-walked c = λ bytes from to es fits order within known h.
 pub returns-clause-spelled : goal.returns-clause-spelled
 returns-clause-spelled c = λ bytes from to es holds.
     ap (walk from) holds.spelled.whole ∙ walk-again from holds.pieces holds.spelled.each ∙ ap whole (sym holds.placed)
+
+pub returns-clause-faulty : goal.returns-clause-faulty
+returns-clause-faulty c = λ bytes from to es fault fits order within known h. walk-broken bytes from to es fault fits order within known h
