@@ -120,10 +120,13 @@ fn read(alloc: Global, bytes: &[u8]) -> Result<ClipIndex, ClipFault>
 /// The clip of a Matroska file: the size of its pictures, and where its configuration record and its
 /// packets lie, in file order.
 ///
-/// It goes once over the headers of the elements that are read and touches no packet. What stands before
-/// the first Tracks of a Segment is gone over once more, as is what stands before a Cluster's Timestamp, a
-/// Cluster of unknown size for its end, and EBML, the TrackEntries and Video. It keeps 16 bytes for each packet. Of several faults the first in the order of
-/// `ClipFault` is answered, of `Laced` and `TimeOrder` the one of the first such block.
+/// It goes once over the headers of the elements that are read and touches no packet. A few more times,
+/// whatever the file, it goes over what stands before the Segment, in it before the first Tracks, and in
+/// EBML, Tracks, the TrackEntries and Video; and once more over what stands before a Cluster's Timestamp,
+/// and over a Cluster of unknown size for its end. It keeps 16 bytes for each packet.
+///
+/// Of several faults the first in the order of `ClipFault` is answered, of `Laced` and `TimeOrder` the one
+/// of the first such block.
 pub fn read_clip(alloc: Global, bytes: &[u8]) -> Result<ClipIndex, ClipFault>
     ensures exact { Gives (λ clip. clip) result (clip_of bytes.now) }
     ensures limits { IfOk result IsWithinLimits }

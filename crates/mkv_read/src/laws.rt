@@ -20,8 +20,8 @@ pub fn plain_is_whole()
 {}
 
 /// In a file without a faulty element, the elements in each master that is read follow one another up
-/// to its end. The bytes spell each of them, and those of unknown size, a Segment or Clusters, end
-/// where RFC 8794 and RFC 9559 say.
+/// to its end. The bytes spell each of them, and of those of unknown size a Segment ends with its parent
+/// and a Cluster before the next child of a Segment, or with its parent.
 pub fn sound_is_spelled()
     ensures { (bytes : List ℕ) → AllByRecursion (λ byte. byte < 256) bytes → fault_of bytes ≡ None
         → Spelled depth bytes FILE 0 (end_or (length bytes) (segment_of bytes)) }

@@ -1,47 +1,48 @@
 -- What a run did, from what its parts did.
-use Rattle.std.proofs.Common.{◌≡◌, ◌⊎◌, ℕ, Bool, true, false, List, [], ◌∷◌, Option, Some, None, Result, Ok, Err, refl, sym, ap, ◌∙◌, inl, inr, arith}
+use Rattle.std.proofs.Common.{◌≡◌, ◌⊎◌, ℕ, Bool, true, false, List, [], ◌∷◌, ◌++◌, Option, Some, None, Result, Ok, Err, refl, sym, ap, ◌∙◌, inl, inr, arith}
 use Rattle.std.specs.Str.{bytes_eq}
 use Rattle.std.proofs.lemmas.Slice.Eq.{bytes_eq-Decides}
 use Rattle.tl_ports.specs.Outside.{KeepsOthers}
 use Rattle.tl_ports.specs.declared.fault.PutFault.{PutFault}
 use Rattle.tl_ports.specs.declared.fault.PutFault.TheVariants as putting
 use Rattle.mkv_read.specs.declared.clip.ClipIndex.{ClipIndex}
+use Rattle.timeline_app.specs.declared.export.Ending.{Ending}
 use Rattle.timeline_app.specs.declared.stop.Stop.{Stop}
 use Rattle.timeline_app.specs.declared.stop.Stop.TheVariants as stops
 use Rattle.timeline_app.specs.Script.{Form}
 use Rattle.timeline_app.specs.Lines.{usage_line, refused_lines, memory_line}
-use Rattle.timeline_app.specs.Run.{Count, Rises, IsCalm, IsJob, IsInside, IsPartial, Says, Puts, PutsFront, StopsWith, StopHasCause, stop_line, stop_status, status_after, ChangesExport, Plays, export_lines}
-use Rattle.timeline_app.specs.Top.{Works, Stopped, ChangesOnlyExport, SaysTranscript, Runs}
-use Rattle.timeline_app.proofs.Saying.{whole_front}
+use Rattle.timeline_app.specs.Run.{Count, Rises, IsCalm, IsJob, IsInside, IsPartial, Says, Puts, PutsFront, PutsSome, StopsWith, StopHasCause, stop_line, stop_status, status_after, ChangesExport, Plays, export_lines}
+use Rattle.timeline_app.specs.Top.{Works, Stopped, ChangesOnlyExport, SaysTranscript, RunsOut, Runs}
+use Rattle.timeline_app.proofs.Saying.{whole_front, some_front}
 
 -- The last line decides only between its status and want of memory.
 pub stops_with : (tells : Type 0) (faults : Count) (before after : List (List ℕ)) (line : List ℕ) (said : Result Unit PutFault) (status : ℕ) → Says tells before after (line ∷ []) faults said
     → StopsWith tells faults before after line status (status_after said status)
 stops_with tells faults before after line (Ok done) status h = record { ended = inr (refl, inl h.0); said = whole_front tells before after (line ∷ []) h.0 }
 stops_with tells faults before after line (Err putting.Failed) status h = record { ended = inr (refl, inr h); said = h.1 }
-stops_with tells faults before after line (Err putting.NoMemory) status h = record { ended = inl (refl, h.0); said = h.1 }
+stops_with tells faults before after line (Err putting.NoMemory) status h = record { ended = inl (refl, h.0, h.1); said = some_front tells before after (line ∷ []) h.1 }
 
 -- The words aren't of the form, and memory may have run out.
 misused_by : (tells : Type 0) (faults : Count) (file : List ℕ → Option (List ℕ)) (vault_tells : Type 0) (vault_count : ℕ) (old : List ℕ → Option (List ℕ)) (out_tells : Type 0) (out_faults : Count) (before after : List (List ℕ)) (status : ℕ)
-    → ((status ≡ 5) × IsCalm out_faults) ⊎ ((status ≡ 2) × Puts out_tells (Rises out_faults) before after usage_line) → SaysTranscript None tells faults file vault_tells (vault_count, vault_count) old out_tells before after
+    → IsCalm faults → ((status ≡ 5) × IsCalm out_faults × PutsSome out_tells before after (usage_line ∷ [])) ⊎ ((status ≡ 2) × Puts out_tells (Rises out_faults) before after usage_line) → SaysTranscript None tells faults file vault_tells (vault_count, vault_count) old out_tells before after
     → Runs None tells faults file vault_tells (vault_count, vault_count) old old out_tells out_faults before after status
-misused_by tells faults file vt vf old ot outf before after status (inl (memory, calm)) lines = record {
+misused_by tells faults file vt vf old ot outf before after status fetched (inl (memory, calm, some)) lines = record {
   played = λ e. absurd (omega (arith, e, memory));
   calm = λ e. absurd (omega (arith, e, memory));
   misused = λ e. absurd (omega (arith, e, memory));
   faulty = λ e. absurd (omega (arith, e, memory));
   outside = λ e. absurd (omega (arith, e, memory));
-  memory = λ _. inl calm;
+  memory = λ _. (usage_line ∷ [], inl (refl, refl), inl (calm, some));
   no_other = inr (inr (inr (inr memory)));
   usage = λ _. inr memory;
   files = λ told other. inl refl;
   asked = inl (refl, λ told other. refl);
   lines = lines;
 }
-misused_by tells faults file vt vf old ot outf before after status (inr h) lines = record {
+misused_by tells faults file vt vf old ot outf before after status fetched (inr h) lines = record {
   played = λ e. absurd (omega (arith, e, h.0));
   calm = λ e. absurd (omega (arith, e, h.0));
-  misused = λ _. (refl, h.1);
+  misused = λ _. (refl, fetched, h.1);
   faulty = λ e. absurd (omega (arith, e, h.0));
   outside = λ e. absurd (omega (arith, e, h.0));
   memory = λ e. absurd (omega (arith, e, h.0));
@@ -54,8 +55,8 @@ misused_by tells faults file vt vf old ot outf before after status (inr h) lines
 
 -- The words aren't of the form.
 pub run_misused : (tells : Type 0) (faults : Count) (file : List ℕ → Option (List ℕ)) (vault_tells : Type 0) (vault_count : ℕ) (old : List ℕ → Option (List ℕ)) (out_tells : Type 0) (out_faults : Count) (before after : List (List ℕ)) (status : ℕ)
-    → StopsWith out_tells out_faults before after usage_line 2 status → Runs None tells faults file vault_tells (vault_count, vault_count) old old out_tells out_faults before after status
-run_misused tells faults file vt vf old ot outf before after status h = misused_by tells faults file vt vf old ot outf before after status h.ended (usage_line ∷ [], inl (refl, refl), h.said)
+    → IsCalm faults → StopsWith out_tells out_faults before after usage_line 2 status → Runs None tells faults file vault_tells (vault_count, vault_count) old old out_tells out_faults before after status
+run_misused tells faults file vt vf old ot outf before after status fetched h = misused_by tells faults file vt vf old ot outf before after status fetched h.ended (usage_line ∷ [], inl (refl, refl), h.said)
 
 -- a name that is there is none that isn't
 named : {A : Type 0} (name : List ℕ) → Some name ≡ None → A
@@ -63,7 +64,7 @@ named name e = absurd cc
 
 -- The session didn't start, for want of memory.
 early_memory : (name : List ℕ) (tells : Type 0) (faults : Count) (file : List ℕ → Option (List ℕ)) (vault_tells : Type 0) (vault_count : ℕ) (old : List ℕ → Option (List ℕ)) (out_tells : Type 0) (out_faults : Count) (before after : List (List ℕ)) (status : ℕ)
-    → status ≡ 5 → IsCalm out_faults ⊎ PutsFront out_tells before after (memory_line ∷ []) → SaysTranscript (Some name) tells faults file vault_tells (vault_count, vault_count) old out_tells before after → Runs (Some name) tells faults file vault_tells (vault_count, vault_count) old old out_tells out_faults before after status
+    → status ≡ 5 → RunsOut (Some name) tells faults file vault_tells (vault_count, vault_count) old out_tells out_faults before after → SaysTranscript (Some name) tells faults file vault_tells (vault_count, vault_count) old out_tells before after → Runs (Some name) tells faults file vault_tells (vault_count, vault_count) old old out_tells out_faults before after status
 early_memory name tells faults file vt vf old ot outf before after status memory how lines = record {
   played = λ e. absurd (omega (arith, e, memory));
   calm = λ e. absurd (omega (arith, e, memory));
@@ -113,16 +114,18 @@ early_four name tells faults file vt vf old ot outf before after status four h l
 
 -- The session didn't start: its status is that of its cause, or memory ran out.
 stopped_by : (name : List ℕ) (tells : Type 0) (faults : Count) (file : List ℕ → Option (List ℕ)) (vault_tells : Type 0) (vault_count : ℕ) (old : List ℕ → Option (List ℕ)) (out_tells : Type 0) (out_faults : Count) (before after : List (List ℕ)) (stop : Stop) (status : ℕ)
-    → StopHasCause tells file name faults stop → StopsWith out_tells out_faults before after (stop_line stop) (stop_status stop) status → ((status ≡ 5) × IsCalm out_faults) ⊎ ((status ≡ stop_status stop) × Puts out_tells (Rises out_faults) before after (stop_line stop)) → SaysTranscript (Some name) tells faults file vault_tells (vault_count, vault_count) old out_tells before after
+    → StopHasCause tells file name faults stop → StopsWith out_tells out_faults before after (stop_line stop) (stop_status stop) status → ((status ≡ 5) × IsCalm out_faults × PutsSome out_tells before after (stop_line stop ∷ [])) ⊎ ((status ≡ stop_status stop) × Puts out_tells (Rises out_faults) before after (stop_line stop)) → SaysTranscript (Some name) tells faults file vault_tells (vault_count, vault_count) old out_tells before after
     → Runs (Some name) tells faults file vault_tells (vault_count, vault_count) old old out_tells out_faults before after status
-stopped_by name tells faults file vt vf old ot outf before after stop status cause ends (inl (memory, calm)) lines = early_memory name tells faults file vt vf old ot outf before after status memory (inl calm) lines
+stopped_by name tells faults file vt vf old ot outf before after stop status cause ends (inl (memory, calm, some)) lines =
+    early_memory name tells faults file vt vf old ot outf before after status memory (stop_line stop ∷ [], inr (inl (name, refl, (stop, cause, refl))), inl (calm, some)) lines
 stopped_by name tells faults file vt vf old ot outf before after (stops.Unfetched of fault) status cause ends (inr h) lines =
     early_four name tells faults file vt vf old ot outf before after status h.0 (record { of = name; named = refl; stop = stops.Unfetched of fault; cause = cause; status_is = refl; line = h.1 }) lines
 stopped_by name tells faults file vt vf old ot outf before after (stops.Faulty n) status cause ends (inr h) lines =
     early_three name tells faults file vt vf old ot outf before after status h.0 (record { of = name; named = refl; stop = stops.Faulty n; cause = cause; status_is = refl; line = h.1 }) lines
 stopped_by name tells faults file vt vf old ot outf before after (stops.FaultyClip fault) status cause ends (inr h) lines =
     early_three name tells faults file vt vf old ot outf before after status h.0 (record { of = name; named = refl; stop = stops.FaultyClip fault; cause = cause; status_is = refl; line = h.1 }) lines
-stopped_by name tells faults file vt vf old ot outf before after stops.NoMemory status cause ends (inr h) lines = early_memory name tells faults file vt vf old ot outf before after status h.0 (inr ends.said) lines
+stopped_by name tells faults file vt vf old ot outf before after stops.NoMemory status cause ends (inr h) lines =
+    early_memory name tells faults file vt vf old ot outf before after status h.0 (memory_line ∷ [], inr (inl (name, refl, (stops.NoMemory, cause, refl))), inr (inr (refl, ends.said))) lines
 
 -- The session didn't start.
 pub run_stopped : (name : List ℕ) (tells : Type 0) (faults : Count) (file : List ℕ → Option (List ℕ)) (vault_tells : Type 0) (vault_count : ℕ) (old : List ℕ → Option (List ℕ)) (out_tells : Type 0) (out_faults : Count) (before after : List (List ℕ)) (stop : Stop) (status : ℕ)
@@ -176,7 +179,15 @@ run_played name tells faults file vt vf old new ot outf before after script byte
         | inl r ↦ inl (record { script = script; bytes = bytes; clip = clip; works = works; rose = r })
         | inr v ↦ inr (inr (record { script = script; bytes = bytes; clip = clip; works = works; inside = inside; rose = v.0; lines = v.1 }))
       ];
-      memory = λ e. inl (h.memory e);
+      memory = λ e. let m = h.memory e in (
+        export_lines script.len m.0,
+        inr (inr (script, bytes, clip, works, inl (inside, (m.0, m.1, refl)))),
+        elim m.3 [
+          | inl some ↦ inl (m.2, some)
+          | inr w ↦
+              inr (inl (m.2, (script.len, ap (export_lines script.len) w.0), λ told. w.1 told ∙ ap (λ (ending : Ending). before ++ export_lines script.len ending) (sym w.0)))
+        ],
+      );
       no_other = one_of status h.no_other;
       usage = λ e. named name e;
       asked = elim asked [ inl untouched ↦ inl untouched | inr first ↦ inr (script, bytes, clip, works, inside, first) ];
@@ -191,7 +202,7 @@ run_played name tells faults file vt vf old new ot outf before after script byte
       misused = λ e. apart status 2 h.no_other (inl refl) e;
       faulty = λ e. apart status 3 h.no_other (inr refl) e;
       outside = λ e. inl (record { script = script; bytes = bytes; clip = clip; works = works; rose = h.failed e });
-      memory = λ e. inl (h.memory e);
+      memory = λ e. let m = h.memory e in (refused_lines, inr (inr (script, bytes, clip, works, inr (outside, refl))), inl (m.0, m.1));
       no_other = one_of status h.no_other;
       usage = λ e. named name e;
       files = λ told other. inl (untouched.1 told other);

@@ -37,7 +37,7 @@ pub at_bytes : (tells : Type 0) (kept : Option (List ℕ)) (name : List ℕ) (fa
     → IsFetched tells kept clip_limit bytes → IsCalm faults → text ≡ bytes → ReadsClip text (Err stop) → IsClipStop tells kept name faults stop
 at_bytes tells kept name faults text bytes (stops.Unfetched of fault) fetched calm same h = absurd h
 at_bytes tells kept name faults text bytes (stops.Faulty n) fetched calm same h = absurd h
-at_bytes tells kept name faults text bytes (stops.FaultyClip fault) fetched calm same h = (bytes, fetched, subst (λ (x : List ℕ). clip_of x ≡ Err fault) same h)
+at_bytes tells kept name faults text bytes (stops.FaultyClip fault) fetched calm same h = (calm, (bytes, fetched, subst (λ (x : List ℕ). clip_of x ≡ Err fault) same h))
 at_bytes tells kept name faults text bytes stops.NoMemory fetched calm same h = calm
 
 -- A fault that isn't want of memory is that of the definition.

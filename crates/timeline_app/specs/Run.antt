@@ -119,17 +119,17 @@ IsUnfetchedStop tells kept name limit faults (stops.FaultyClip fault) = ⊥
 -- The clip's file of this name wasn't fetched, or it was and has this fault.
 abbrev pub IsClipStop : (tells : Type 0) (kept : Option (List ℕ)) (name : List ℕ) (faults : Count) → Stop → Type 0
 IsClipStop tells kept name faults (stops.Unfetched of fault) = (string_bytes of ≡ name) × IsUnfetched tells kept clip_limit (Rises faults) fault
-IsClipStop tells kept name faults (stops.FaultyClip fault) = (bytes : List ℕ) × IsFetched tells kept clip_limit bytes × (clip_of bytes ≡ Err fault)
+IsClipStop tells kept name faults (stops.FaultyClip fault) = IsCalm faults × ((bytes : List ℕ) × IsFetched tells kept clip_limit bytes × (clip_of bytes ≡ Err fault))
 IsClipStop tells kept name faults stops.NoMemory = IsCalm faults
 IsClipStop tells kept name faults (stops.Faulty n) = ⊥
 
--- A session that doesn't start has its cause: the script or, where it is of the form, its clip wasn't fetched; the script was fetched and
--- isn't of the form; or it is, and the clip was fetched and has a fault; or memory ran out, and the store had no fault.
+-- A session that doesn't start has its cause: the script or, where it is of the form, its clip wasn't fetched; or the store had no fault, and the
+-- script was fetched and isn't of the form, or it is and the clip was fetched and has a fault, or memory ran out.
 abbrev pub StopHasCause : (tells : Type 0) (file : List ℕ → Option (List ℕ)) (name : List ℕ) (faults : Count) → Stop → Type 0
 StopHasCause tells file name faults (stops.Unfetched of fault) =
     ((string_bytes of ≡ name) × IsUnfetched tells (file name) script_limit (Rises faults) fault)
     ⊎ ((script : Form) × IsScript tells file name script × IsClipStop tells (file script.file) script.file faults (stops.Unfetched of fault))
-StopHasCause tells file name faults (stops.Faulty n) = (text : List ℕ) × IsFetched tells (file name) script_limit text × (script_of text ≡ Err n)
+StopHasCause tells file name faults (stops.Faulty n) = IsCalm faults × ((text : List ℕ) × IsFetched tells (file name) script_limit text × (script_of text ≡ Err n))
 StopHasCause tells file name faults (stops.FaultyClip fault) =
     (script : Form) × IsScript tells file name script × IsClipStop tells (file script.file) script.file faults (stops.FaultyClip fault)
 StopHasCause tells file name faults stops.NoMemory = IsCalm faults
@@ -192,11 +192,15 @@ ChangesExport tells old new script bytes clip = tells → (new ≡ old) ⊎ ((he
 abbrev pub PutsFront : (tells : Type 0) (before after lines : List (List ℕ)) → Type 0
 PutsFront tells before after lines = tells → (pieces : List (List ℕ)) × (after ≡ before ++ pieces) × IsFront pieces lines
 
--- Lines were put, each whole and by itself, or some front of them where the count rose or memory ran out.
+-- Some of these lines were put, whole, but not all.
+abbrev pub PutsSome : (tells : Type 0) (before after lines : List (List ℕ)) → Type 0
+PutsSome tells before after lines = tells → (count : ℕ) × (count < length lines) × (after ≡ before ++ take count lines)
+
+-- Lines were put, each whole and by itself; or some front of them where the count rose; or some of them where memory ran out.
 abbrev pub Says : (tells : Type 0) (before after lines : List (List ℕ)) (faults : Count) → Result Unit PutFault → Type 0
 Says tells before after lines faults (Ok done) = (tells → after ≡ before ++ lines) × IsCalm faults
 Says tells before after lines faults (Err putting.Failed) = Rises faults × PutsFront tells before after lines
-Says tells before after lines faults (Err putting.NoMemory) = IsCalm faults × PutsFront tells before after lines
+Says tells before after lines faults (Err putting.NoMemory) = IsCalm faults × PutsSome tells before after lines
 
 -- The line that says how the export ended.
 abbrev pub ending_line : Ending → List ℕ
@@ -232,8 +236,9 @@ pub record PlaysExport (vault_tells : Type 0) (vault_faults : Count) (old new : 
   pub calm : status ≡ 0 → IsCalm vault_faults × IsCalm out_faults
   -- `out` failed; or the vault did, and `out` says so
   pub failed : status ≡ 4 → Rises out_faults ⊎ (Rises vault_faults × (out_tells → after ≡ before ++ lines endings.Sink))
-  -- memory ran out, and `out` had no fault
-  pub memory : status ≡ 5 → IsCalm out_faults
+  -- memory ran out, at a line or in the export, and `out` had no fault
+  pub memory : status ≡ 5 → (ending : Ending) × EndsExport vault_tells new vault_faults script bytes clip ending × IsCalm out_faults
+      × (PutsSome out_tells before after (lines ending) ⊎ ((ending ≡ endings.NoMemory) × (out_tells → after ≡ before ++ lines endings.NoMemory)))
   pub no_other : (status ≡ 0) ⊎ ((status ≡ 4) ⊎ (status ≡ 5))
   -- whatever the status, the file is as before or holds some front of the export, and no other changed
   pub file : ChangesExport vault_tells (old script.export) (new script.export) script bytes clip
@@ -246,7 +251,7 @@ pub record PlaysRefusal (out_tells : Type 0) (out_faults : Count) (before after 
   pub done : status ≡ 0 → out_tells → after ≡ before ++ refused_lines
   pub calm : status ≡ 0 → IsCalm out_faults
   pub failed : status ≡ 4 → Rises out_faults
-  pub memory : status ≡ 5 → IsCalm out_faults
+  pub memory : status ≡ 5 → IsCalm out_faults × PutsSome out_tells before after refused_lines
   pub no_other : (status ≡ 0) ⊎ ((status ≡ 4) ⊎ (status ≡ 5))
   pub said : PutsFront out_tells before after refused_lines
 
@@ -270,9 +275,9 @@ Plays vault_tells vault_faults old new out_tells out_faults before after script 
 abbrev pub Puts : (tells rose : Type 0) (before after : List (List ℕ)) (line : List ℕ) → Type 0
 Puts tells rose before after line = (tells → after ≡ before ++ line ∷ []) ⊎ (rose × PutsFront tells before after (line ∷ []))
 
--- A session ended before its start with this status, once this line was put; or memory ran out, and `out` had no fault.
+-- A session ended before its start with this status, once this line was put; or memory ran out before that, and `out` had no fault.
 pub record StopsWith (tells : Type 0) (faults : Count) (before after : List (List ℕ)) (line : List ℕ) (status result : ℕ) : Type 0 where
-  pub ended : ((result ≡ 5) × IsCalm faults) ⊎ ((result ≡ status) × Puts tells (Rises faults) before after line)
+  pub ended : ((result ≡ 5) × IsCalm faults × PutsSome tells before after (line ∷ [])) ⊎ ((result ≡ status) × Puts tells (Rises faults) before after line)
   pub said : PutsFront tells before after (line ∷ [])
 
 -- The status after the last line, which was put so.

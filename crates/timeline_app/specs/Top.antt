@@ -8,7 +8,7 @@ use Rattle.mkv_read.specs.declared.fault.ClipFault.{ClipFault}
 use Rattle.mkv_read.specs.Clip.{clip_of}
 use Rattle.timeline_app.specs.Script.{Form, script_of}
 use Rattle.timeline_app.specs.Lines.{usage_line, ok_line, refused_lines, memory_line}
-use Rattle.timeline_app.specs.Run.{Count, Rises, IsCalm, script_limit, clip_limit, IsJob, IsInside, IsPartial, IsUntouched, PutsFirst, EndsExport, export_of, export_lines, StopHasCause, stop_line, stop_status, Puts, PutsFront}
+use Rattle.timeline_app.specs.Run.{Count, Rises, IsCalm, script_limit, clip_limit, IsJob, IsInside, IsPartial, IsUntouched, PutsFirst, EndsExport, export_of, export_lines, StopHasCause, stop_line, stop_status, Puts, PutsFront, PutsSome}
 
 -- A script of the form and a file with its clip were fetched, of the name that the words give.
 pub record Works (name : Option (List ℕ)) (tells : Type 0) (file : List ℕ → Option (List ℕ)) (script : Form) (bytes : List ℕ) (clip : ClipIndex) : Type 0 where
@@ -76,6 +76,16 @@ abbrev pub SaysTranscript : (name : Option (List ℕ)) (tells : Type 0) (faults 
 SaysTranscript name tells faults file vault_tells vault_faults new out_tells before after =
     (lines : List (List ℕ)) × IsTranscript name tells faults file vault_tells vault_faults new lines × PutsFront out_tells before after lines
 
+-- Memory ran out: at a line, so that `out` got those before it and no more; or in the export, and `out` says so. `out` had no fault then. Or it ran out before the
+-- session started, and of the line that says so `out` got some front.
+abbrev pub RunsOut : (name : Option (List ℕ)) (tells : Type 0) (faults : Count) (file : List ℕ → Option (List ℕ)) (vault_tells : Type 0) (vault_faults : Count) (new : List ℕ → Option (List ℕ))
+    (out_tells : Type 0) (out_faults : Count) (before after : List (List ℕ)) → Type 0
+RunsOut name tells faults file vault_tells vault_faults new out_tells out_faults before after =
+    (lines : List (List ℕ)) × IsTranscript name tells faults file vault_tells vault_faults new lines
+    × ((IsCalm out_faults × PutsSome out_tells before after lines)
+    ⊎ ((IsCalm out_faults × ((frames : ℕ) × (lines ≡ export_lines frames endings.NoMemory)) × (out_tells → after ≡ before ++ lines))
+    ⊎ ((lines ≡ memory_line ∷ []) × PutsFront out_tells before after lines)))
+
 -- The told script isn't of the form, or it is and its told clip has a fault; neither is over its limit.
 abbrev pub IsFaulty : (file : List ℕ → Option (List ℕ)) (name : List ℕ) → Type 0
 IsFaulty file name =
@@ -88,11 +98,11 @@ pub record Runs (name : Option (List ℕ)) (tells : Type 0) (faults : Count) (fi
     (out_tells : Type 0) (out_faults : Count) (before after : List (List ℕ)) (status : ℕ) : Type 0 where
   pub played : status ≡ 0 → (script : Form) × (bytes : List ℕ) × (clip : ClipIndex) × Works name tells file script bytes clip × Played vault_tells old new out_tells before after script bytes clip
   pub calm : status ≡ 0 → IsCalm faults × IsCalm vault_faults × IsCalm out_faults
-  pub misused : status ≡ 2 → (name ≡ None) × Puts out_tells (Rises out_faults) before after usage_line
+  pub misused : status ≡ 2 → (name ≡ None) × IsCalm faults × Puts out_tells (Rises out_faults) before after usage_line
   pub faulty : status ≡ 3 → Stopped 3 name tells faults file out_tells (Rises out_faults) before after
   pub outside : status ≡ 4 → Unsaid name tells file (Rises out_faults)
       ⊎ (Stopped 4 name tells faults file out_tells (Rises out_faults) before after ⊎ Unsunk name tells file (Rises vault_faults) out_tells before after)
-  pub memory : status ≡ 5 → IsCalm out_faults ⊎ PutsFront out_tells before after (memory_line ∷ [])
+  pub memory : status ≡ 5 → RunsOut name tells faults file vault_tells vault_faults new out_tells out_faults before after
   pub no_other : (status ≡ 0) ⊎ ((status ≡ 2) ⊎ ((status ≡ 3) ⊎ ((status ≡ 4) ⊎ (status ≡ 5))))
   pub usage : name ≡ None → (status ≡ 2) ⊎ (status ≡ 5)
   pub files : ChangesOnlyExport name tells file vault_tells old new

@@ -2,9 +2,9 @@
 
 ghost use Rattle.std.specs.Prelude.{◌≡◌, ◌⊎◌, ◌==◌, ℕ, List, [], ◌∷◌, Some, None, map, option_map, slice_index, string_bytes};
 ghost use Rattle.tl_ports.specs.Outside.{Rose};
-ghost use Rattle.timeline_app.specs.Lines.{usage_line, memory_line};
-ghost use Rattle.timeline_app.specs.Run.{script_name, Says, Puts, PutsFront, StopsWith, stop_line, stop_status, status_after};
-ghost use Rattle.timeline_app.specs.Top.{Runs, Works, Played, Stopped, Unsaid, Unsunk, ChangesOnlyExport, ExportsWhenAsked, SaysTranscript, IsFaulty};
+ghost use Rattle.timeline_app.specs.Lines.{usage_line};
+ghost use Rattle.timeline_app.specs.Run.{script_name, Says, Puts, StopsWith, stop_line, stop_status, status_after};
+ghost use Rattle.timeline_app.specs.Top.{Runs, Works, Played, Stopped, Unsaid, Unsunk, ChangesOnlyExport, ExportsWhenAsked, SaysTranscript, RunsOut, IsFaulty};
 ghost use Rattle.mkv_read.specs.declared.clip.ClipIndex.{ClipIndex};
 ghost use Rattle.timeline_app.specs.Script.{Form};
 
@@ -160,7 +160,7 @@ pub fn run_alone<T: Store, V: Vault, S: Sink, O: Sink>(
     ensures calm { result.status ≡ 0 → (T.faults store.new ≡ T.faults store.old) × (V.faults vault.new ≡ V.faults vault.old) × (O.faults out.new ≡ O.faults out.old) }
 
     // 2: exactly where the words aren't of the form, unless memory ran out.
-    ensures misused { result.status ≡ 2 → (script_name (map string_bytes words.now) ≡ None) × Puts O.tells (Rose (O.faults out.old) (O.faults out.new)) (O.pieces out.old) (O.pieces out.new) usage_line }
+    ensures misused { result.status ≡ 2 → (script_name (map string_bytes words.now) ≡ None) × (T.faults store.new ≡ T.faults store.old) × Puts O.tells (Rose (O.faults out.old) (O.faults out.new)) (O.pieces out.old) (O.pieces out.new) usage_line }
     ensures usage { script_name (map string_bytes words.now) ≡ None → (result.status ≡ 2) ⊎ (result.status ≡ 5) }
 
     // 3: exactly where the script was fetched and isn't of the form, or it is and the clip was fetched and has a fault,
@@ -176,8 +176,9 @@ pub fn run_alone<T: Store, V: Vault, S: Sink, O: Sink>(
         ⊎ (Stopped 4 (script_name (map string_bytes words.now)) T.tells (T.faults store.old, T.faults store.new) (T.file store.old) O.tells (Rose (O.faults out.old) (O.faults out.new)) (O.pieces out.old) (O.pieces out.new)
         ⊎ Unsunk (script_name (map string_bytes words.now)) T.tells (T.file store.old) (Rose (V.faults vault.old) (V.faults vault.new)) O.tells (O.pieces out.old) (O.pieces out.new)) }
 
-    // 5: want of memory, and `out` had no fault before the line `no memory`. There is no other status.
-    ensures memory { result.status ≡ 5 → (O.faults out.new ≡ O.faults out.old) ⊎ PutsFront O.tells (O.pieces out.old) (O.pieces out.new) (memory_line ∷ []) }
+    // 5: memory ran out at a line or in the export, and `out` had no fault; or before the session started. There is no other status.
+    ensures memory { result.status ≡ 5 → RunsOut (script_name (map string_bytes words.now)) T.tells (T.faults store.old, T.faults store.new) (T.file store.old)
+        V.tells (V.faults vault.old, V.faults vault.new) (V.file vault.new) O.tells (O.faults out.old, O.faults out.new) (O.pieces out.old) (O.pieces out.new) }
     ensures no_other { (result.status ≡ 0) ⊎ ((result.status ≡ 2) ⊎ ((result.status ≡ 3) ⊎ ((result.status ≡ 4) ⊎ (result.status ≡ 5)))) }
 
     // Whatever the status: what else changed.

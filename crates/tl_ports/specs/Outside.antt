@@ -48,10 +48,11 @@ abbrev pub Adds : (before after piece : List ℕ) → Result Unit PutFault → T
 Adds before after piece (Ok done) = after ≡ before ++ piece
 Adds before after piece (Err fault) = (count : ℕ) × (after ≡ before ++ take count piece)
 
--- A piece was put, whole, or after a refusal some front of it or nothing: one call puts one piece.
+-- A piece was put, whole, or where the call failed some front of it or nothing, and where memory was wanting nothing: one call puts one piece.
 abbrev pub PutsPiece : (before after : List (List ℕ)) (piece : List ℕ) → Result Unit PutFault → Type 0
 PutsPiece before after piece (Ok done) = after ≡ before ++ piece ∷ []
-PutsPiece before after piece (Err fault) = (after ≡ before) ⊎ ((count : ℕ) × (after ≡ before ++ take count piece ∷ []))
+PutsPiece before after piece (Err putting.Failed) = (after ≡ before) ⊎ ((count : ℕ) × (after ≡ before ++ take count piece ∷ []))
+PutsPiece before after piece (Err putting.NoMemory) = after ≡ before
 
 -- After `begin`: at `Ok` the name is begun and its file is empty; after a refusal none is begun and the named file is as before or empty.
 abbrev pub Begins : (tells : Type 0) (name : List ℕ) (begun : Option (List ℕ)) (before after : Option (List ℕ)) → Result Unit PutFault → Type 0

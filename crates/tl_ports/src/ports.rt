@@ -81,7 +81,7 @@ pub trait Sink {
     /// How many faults there were.
     ghost faults: { Self → ℕ };
 
-    /// Adds the bytes. After a refusal some front of them was added.
+    /// Adds the bytes. Where that fails some front of them was added, and where memory is wanting none.
     fn put(&mut self, bytes: &[u8]) -> Result<(), PutFault>
         ensures added { tells → PutsPiece (pieces self.old) (pieces self.new) bytes.now result }
         ensures later { faults self.old ≤ faults self.new }

@@ -2,7 +2,7 @@ use Rattle.std.proofs.Common.{ℕ, List, [], ◌∷◌, Ok, Err, subst}
 use Rattle.timeline_app.specs.Reading.{view}
 use Rattle.timeline_app.specs.Lines.{asked_line}
 use Rattle.timeline_app.specs.Run.{Says, asked_lines, ending_line}
-use Rattle.timeline_app.proofs.Saying.{says_first, says_both, refused_front, export_ended, export_stopped}
+use Rattle.timeline_app.proofs.Saying.{says_first, says_both, export_ended, export_stopped}
 use Rattle.timeline_app.proofs.play.play_asked.Goals as goal
 
 pub returns-in-Ok-say_ending-clause-plays : goal.returns-in-Ok-say_ending-clause-plays
@@ -39,8 +39,8 @@ returns-in-Err-clause-plays g c =
     let both = says_first O.tells (O.pieces old) (O.pieces new) (asked_line ∷ []) (ending_line ending ∷ []) faults fault asked in
     rw c.fault_status.ensures
     (export_stopped V.tells (V.faults c.args.vault.now, V.faults vault) (V.file c.args.vault.now) (V.file vault) O.tells faults (O.pieces old) (O.pieces new)
-    asked_lines (view job.script) job.bytes.items job.index (asked_lines ending) ending fault both c.export-ending.ensures.file c.export-ending.ensures.others
-    c.export-ending.ensures.ended (refused_front O.tells (O.pieces old) (O.pieces new) (asked_lines ending) faults fault both))
+    asked_lines (view job.script) job.bytes.items job.index ending fault both c.export-ending.ensures.file c.export-ending.ensures.others
+    c.export-ending.ensures.ended)
 
 pub returns-in-Err-say_ending-clause-plays : goal.returns-in-Err-say_ending-clause-plays
 returns-in-Err-say_ending-clause-plays g c =
@@ -59,5 +59,5 @@ returns-in-Err-say_ending-clause-plays g c =
     let both = says_both O.tells (O.pieces old) (O.pieces mid) (O.pieces new) (asked_line ∷ []) (ending_line ending ∷ []) (O.faults old) (O.faults mid) (O.faults new) (Err fault) asked c.in-Err-say_ending.ensures.said in
     rw c.fault_status-in-Err-say_ending.ensures
     (export_stopped V.tells (V.faults c.args.vault.now, V.faults vault) (V.file c.args.vault.now) (V.file vault) O.tells faults (O.pieces old) (O.pieces new)
-    asked_lines (view job.script) job.bytes.items job.index (asked_lines ending) ending fault both c.export-ending.ensures.file c.export-ending.ensures.others
-    c.export-ending.ensures.ended (refused_front O.tells (O.pieces old) (O.pieces new) (asked_lines ending) faults fault both))
+    asked_lines (view job.script) job.bytes.items job.index ending fault both c.export-ending.ensures.file c.export-ending.ensures.others
+    c.export-ending.ensures.ended)

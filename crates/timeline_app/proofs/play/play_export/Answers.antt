@@ -2,7 +2,7 @@ use Rattle.std.proofs.Common.{ℕ, List, [], ◌∷◌, ◌++◌, refl, inl, inr
 use Rattle.timeline_app.specs.Reading.{view}
 use Rattle.timeline_app.specs.Lines.{ok_line}
 use Rattle.timeline_app.specs.Run.{asked_lines, export_lines}
-use Rattle.timeline_app.proofs.Saying.{says_first, refused_front, export_after, export_stopped}
+use Rattle.timeline_app.proofs.Saying.{says_first, export_after, export_stopped}
 use Rattle.timeline_app.specs.declared.export.Ending.TheVariants as endings
 use Rattle.timeline_app.proofs.play.play_export.Goals as goal
 
@@ -32,8 +32,8 @@ returns-in-Err-clause-plays g c =
     let both = says_first O.tells (O.pieces old) (O.pieces new) (ok_line job.script.len ∷ []) (asked_lines endings.NoMemory) faults fault (c.in-Err.ensures.said (ok_line job.script.len) c.ok_line.ensures) in
     rw c.fault_status.ensures
     (export_stopped V.tells (V.faults c.args.vault.now, V.faults c.args.vault.now) file file O.tells faults (O.pieces old) (O.pieces new)
-    (export_lines job.script.len) (view job.script) job.bytes.items job.index (export_lines job.script.len endings.NoMemory) endings.NoMemory fault both (λ told. inl refl) (λ told other ne. refl)
-    (inl refl) (refused_front O.tells (O.pieces old) (O.pieces new) (export_lines job.script.len endings.NoMemory) faults fault both))
+    (export_lines job.script.len) (view job.script) job.bytes.items job.index endings.NoMemory fault both (λ told. inl refl) (λ told other ne. refl)
+    (inl refl))
 
 pub returns-in-Ok-clause-asked : goal.returns-in-Ok-clause-asked
 returns-in-Ok-clause-asked g c =
