@@ -11,7 +11,7 @@ use Rattle.timeline_app.specs.declared.stop.Stop.{Stop}
 use Rattle.timeline_app.specs.declared.stop.Stop.TheVariants as stops
 use Rattle.timeline_app.specs.Script.{Form}
 use Rattle.timeline_app.specs.Lines.{usage_line, refused_lines, memory_line}
-use Rattle.timeline_app.specs.Run.{Count, Rises, IsCalm, IsJob, IsInside, IsPartial, Says, Puts, PutsFront, PutsSome, StopsWith, StopHasCause, stop_line, stop_status, status_after, ChangesExport, Plays, export_lines}
+use Rattle.timeline_app.specs.Run.{Count, Rises, IsCalm, IsJob, IsInside, IsPartial, Says, Puts, PutsSome, StopsWith, StopHasCause, stop_line, stop_status, status_after, ChangesExport, Plays, export_lines}
 use Rattle.timeline_app.specs.Top.{Works, Stopped, ChangesOnlyExport, SaysTranscript, RunsOut, Runs}
 use Rattle.timeline_app.proofs.Saying.{whole_front, some_front}
 
