@@ -11,11 +11,11 @@ use Rattle.ebml_core.specs.declared.element.Element.{Element}
 use Rattle.ebml_core.specs.declared.element.Header.{Header}
 use Rattle.ebml_core.specs.declared.element.EbmlFault.{EbmlFault}
 use Rattle.ebml_core.specs.declared.element.EbmlWhy.TheVariants as whys
-use Rattle.ebml_core.specs.Spelling.{unsigned_of, size_of, Piece, IsPiece, spelling, element_of, IsSize, IsVint}
+use Rattle.ebml_core.specs.Spelling.{unsigned_of, size_of, Piece, IsPiece, spelling, element_of, IsId, IsSize, IsVint}
 use Rattle.ebml_core.specs.Reading.{◌>>=◌, octet_count, vint_at, id_at, size_at, header_at, why_of, sized, laid, found, element_at}
 use Rattle.ebml_core.proofs.Numbers.{AreBytes, AreBytes-drop}
 use Rattle.ebml_core.proofs.Vints.{ok_is, passed, vint_takes, vint_again}
-use Rattle.ebml_core.proofs.Pieces.{spelling-some}
+use Rattle.ebml_core.proofs.Pieces.{vint-some, spelling-some}
 
 -- the value of a step that did not fail
 pub bind_ok : {A B E : Type 0} (r : Result A E) (f : A → Result B E) (y : B) → (r >>= f) ≡ Ok y → (x : A) × (r ≡ Ok x) × (f x ≡ Ok y)
@@ -205,6 +205,45 @@ element_at-stands place text e fits known h =
       placed = sym s.3 ∙ ap (λ (n : ℕ). element a.head.id place (place + n) (place + (a.head.octets + s.0))) (sym octets) ∙ ap (λ (n : ℕ). element a.head.id place (place + (length p.ids + length p.sizes)) (place + n)) (sym long);
     }
 
+-- An element of unknown size that was read has its header at the front of the text, and reaches to its end.
+pub record Opens (place : ℕ) (text : List ℕ) (e : Element) : Type 0 where
+  pub ids : List ℕ
+  pub sizes : List ℕ
+  pub id : IsId ids e.id
+  pub size : IsSize sizes Unknown
+  pub front : text ≡ ids ++ (sizes ++ drop (length ids + length sizes) text)
+  pub start : e.start ≡ place
+  pub content : e.content ≡ place + (length ids + length sizes)
+  pub end : e.end ≡ place + length text
+
+sized_unknown : (place room : ℕ) (h : Header) (size : Size) (e : Element) → e.unknown ≡ true → sized place room h size ≡ Ok e
+    → (size ≡ Unknown) × (e.id ≡ h.id) × (e.start ≡ place) × (e.content ≡ place + h.octets) × (e.end ≡ place + room)
+sized_unknown place room h Unknown e opened is =
+    subst (λ (x : Element). (Unknown ≡ Unknown) × (x.id ≡ h.id) × (x.start ≡ place) × (x.content ≡ place + h.octets) × (x.end ≡ place + room)) (element_is _ e is) (refl, refl, refl, refl, refl)
+sized_unknown place room h (Known size) e opened is =
+    let a = guarded (ltb room (h.octets + size)) _ _ e is in
+    absurd (true≢false (sym opened ∙ sym (ap (λ (x : Element). x.unknown) a.1)))
+
+pub element_at-opens : (place : ℕ) (text : List ℕ) (e : Element) → AreBytes text → e.unknown ≡ true → element_at place text ≡ Ok (Some e) → Opens place text e
+element_at-opens place text e fits opened h =
+    let a = element_parts place text e h in
+    let p = header_parts text a.head a.read in
+    let v = vint_takes 4 text p.ids (omega arith) fits p.id in
+    let w = vint_takes 8 (drop (length p.ids) text) p.sizes (omega arith) (AreBytes-drop (length p.ids) text fits) p.size in
+    let s = sized_unknown place (length text) a.head a.head.size e opened a.is in
+    let ids : text ≡ p.ids ++ drop (length p.ids) text = sym (take-append-drop (length p.ids) text) ∙ ap (λ (x : List ℕ). x ++ drop (length p.ids) text) (sym v.front) in
+    let sizes : drop (length p.ids) text ≡ p.sizes ++ drop (length p.ids + length p.sizes) text = sym (take-append-drop (length p.sizes) (drop (length p.ids) text)) ∙ ap (λ (x : List ℕ). x ++ drop (length p.sizes) (drop (length p.ids) text)) (sym w.front) ∙ ap (λ (x : List ℕ). p.sizes ++ x) (drop-drop (length p.sizes) (length p.ids) text) in
+    record {
+      ids = p.ids;
+      sizes = p.sizes;
+      id = (v.vint, s.1 ∙ sym (ap (λ (g : Header). g.id) p.is));
+      size = (w.vint, sym s.0 ∙ sym (ap (λ (g : Header). g.size) p.is));
+      front = ids ∙ ap (λ (x : List ℕ). p.ids ++ x) sizes;
+      start = s.2;
+      content = s.3 ∙ ap (λ (n : ℕ). place + n) (sym (ap (λ (g : Header). g.octets) p.is));
+      end = s.4;
+    }
+
 -- ---- from the spelling to the reading
 
 header_again : (p : Piece) (rest : List ℕ) → IsPiece p → header_at (spelling p ++ rest) ≡ Ok (header p.id p.size (length p.id_octets + length p.size_octets))
@@ -254,6 +293,30 @@ size_at-takes text size octets fits h =
 pub size_at-again : (octets rest : List ℕ) (size : Size) → IsSize octets size → size_at (octets ++ rest) ≡ Ok (size, length octets)
 unfolding size_at
 size_at-again octets rest size is = rw (vint_again 8 octets rest (omega arith) is.0, ← is.1) refl
+
+-- ---- an element of unknown size
+
+pub record_is : (a b : Element) → a.id ≡ b.id → a.start ≡ b.start → a.content ≡ b.content → a.end ≡ b.end → a.unknown ≡ b.unknown → a ≡ b
+record_is a b id start content end unknown =
+    ap (λ (x : ℕ). with_all x a.start a.content a.end a.unknown) id ∙ ap (λ (x : ℕ). with_all b.id x a.content a.end a.unknown) start ∙ ap (λ (x : ℕ). with_all b.id b.start x a.end a.unknown) content ∙ ap (λ (x : ℕ). with_all b.id b.start b.content x a.unknown) end ∙ ap (λ (x : Bool). with_all b.id b.start b.content b.end x) unknown
+  where
+    with_all : ℕ → ℕ → ℕ → ℕ → Bool → Element
+    with_all id start content end unknown = record { id = id; start = start; content = content; end = end; unknown = unknown }
+
+pub header_from : (text ids sizes rest : List ℕ) → text ≡ ids ++ (sizes ++ rest) → IsVint 4 ids → IsVint 8 sizes → header_at text ≡ Ok (header (unsigned_of ids) (size_of sizes) (length ids + length sizes))
+unfolding header_at id_at size_at
+header_from text ids sizes rest front id size =
+    ap header_at front ∙ rw (vint_again 4 ids (sizes ++ rest) (omega arith) id, drop_at ids (sizes ++ rest) (length ids) refl, vint_again 8 sizes rest (omega arith) size) refl
+
+pub element_at-opened : (place : ℕ) (text : List ℕ) (e : Element) → Opens place text e → e.unknown ≡ true → element_at place text ≡ Ok (Some e)
+element_at-opened place text e o opened =
+    let octets = length o.ids + length o.sizes in
+    let some : 1 ≤ length text = omega (arith, ap length o.front, length-append o.ids (o.sizes ++ drop octets text), vint-some o.ids o.id.0) in
+    let read : Element = record { id = unsigned_of o.ids; start = place; content = place + octets; end = place + length text; unknown = true } in
+    element_at-some place text some
+    ∙ ap (λ (r : Result Header VintFault). found (laid place (length text) r)) (header_from text o.ids o.sizes (drop octets text) o.front o.id.0 o.size.0)
+    ∙ ap (λ (s : Size). found (sized place (length text) (header (unsigned_of o.ids) s octets) s)) (sym o.size.1)
+    ∙ ap (λ (x : Element). Ok (Some x)) (record_is read e (sym o.id.1) (sym o.start) (sym o.content) (sym o.end) (sym opened))
 
 -- ---- a fault
 

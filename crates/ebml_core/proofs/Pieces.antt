@@ -38,14 +38,14 @@ same_fronts p q x y hp hq e =
     let rest : x ≡ y = sym (drop_at p.content x (length p.content) refl) ∙ ap (drop (length p.content)) sizes.1 ∙ drop_at q.content y (length p.content) (sym len) in
     (same_pieces _ _ _ _ _ _ _ _ _ _ ids.0 sizes.0 id size content, rest)
 
+pub vint-some : (octets : List ℕ) → IsVint 4 octets → 1 ≤ length octets
+unfolding unsigned_of
+vint-some [] v = absurd (omega (arith, v.marked))
+vint-some (first ∷ octets) v = omega arith
+
 -- An element is at least the first octet of its id.
 pub spelling-some : (p : Piece) → IsPiece p → 1 ≤ length p.id_octets
-unfolding unsigned_of
-spelling-some p h = at_least_one p.id_octets h.id.0
-  where
-    at_least_one : (octets : List ℕ) → IsVint 4 octets → 1 ≤ length octets
-    at_least_one [] v = absurd (omega (arith, v.marked))
-    at_least_one (first ∷ octets) v = omega arith
+spelling-some p h = vint-some p.id_octets h.id.0
 
 no_end : (p : Piece) (x : List ℕ) → IsPiece p → spelling p ++ x ≡ [] → ⊥
 no_end p x h e = omega (arith, spelling-some p h, simp length-append at (ap length e))

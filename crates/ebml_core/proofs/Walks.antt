@@ -1,14 +1,14 @@
 -- A walk gives exactly the elements that the bytes spell.
-use Rattle.std.proofs.Common.{◌≡◌, ℕ, zero, suc, false, ◌+◌, ◌-◌, ◌<◌, ◌≤◌, List, [], ◌∷◌, ◌++◌, length, take, drop, Option, Some, None, Result, Ok, Err, refl, sym, ap, ◌∙◌, append_assoc, arith}
+use Rattle.std.proofs.Common.{◌≡◌, ℕ, zero, suc, true, false, ◌+◌, ◌-◌, ◌<◌, ◌≤◌, List, [], ◌∷◌, ◌++◌, length, take, drop, Option, Some, None, Result, Ok, Err, refl, sym, ap, ◌∙◌, subst, append_assoc, arith}
 use Rattle.std.specs.List.{flat_map, AllByRecursion}
-use Rattle.std.proofs.lemmas.List.{length-append, length-drop, length-take, take-take, take_at, drop_at, drop-take, drop-drop}
+use Rattle.std.proofs.lemmas.List.{length-append, length-drop, length-take, take-take, take_at, take-append-drop, drop_at, drop_all, drop-take, drop-drop}
 use Rattle.ebml_core.specs.declared.element.Element.{Element}
 use Rattle.ebml_core.specs.declared.element.EbmlFault.{EbmlFault}
-use Rattle.ebml_core.specs.Spelling.{Piece, IsPiece, Spells, IsBroken, spelling, element_of, elements_from, between}
+use Rattle.ebml_core.specs.Spelling.{Piece, IsPiece, Spells, Holds, IsBroken, IsOpen, spelling, element_of, elements_from, between}
 use Rattle.ebml_core.specs.Reading.{element_at}
-use Rattle.ebml_core.specs.Walking.{Walk, ends, breaks, gives, onward, walk_upto, walk, whole, broken, Position, ahead, place_after, rest_of, given}
+use Rattle.ebml_core.specs.Walking.{Walk, ends, breaks, gives, onward, walk_upto, walk, whole, before, Position, ahead, place_after, rest_of, given}
 use Rattle.ebml_core.proofs.Numbers.{AreBytes, AreBytes-take, AreBytes-drop}
-use Rattle.ebml_core.proofs.Headers.{element_at-advances, element_at-stands, element_at-again, element_at-end, element_at-fault}
+use Rattle.ebml_core.proofs.Headers.{element_at-advances, element_at-stands, element_at-again, element_at-end, element_at-fault, Opens, element_at-opens, element_at-opened}
 
 -- the steps of a walk, one way to go on being as good as the other after the element that is read
 onward-same : (r : Result (Option Element) EbmlFault) (f g : Element → Walk) → ((e : Element) → r ≡ Ok (Some e) → f e ≡ g e) → onward r f ≡ onward r g
@@ -74,35 +74,22 @@ onward-breaks (Err other) f fault h = let same : other ≡ fault = cc in ap (λ 
 ok_or_err : {A : Type 0} (r : Result (Option Element) EbmlFault) (e : Element) (fault : EbmlFault) → r ≡ Ok (Some e) → r ≡ Err fault → A
 ok_or_err r e fault first second = absurd cc
 
--- The text at a place is these elements of known size, and then other bytes with which no element begins.
-pub record Breaks (place : ℕ) (text : List ℕ) (es : List Element) (fault : EbmlFault) : Type 0 where
+-- The text at a place is these elements of known size, and then other bytes, over which the walk goes on.
+pub record Goes (place : ℕ) (text : List ℕ) (es : List Element) (w : Walk) : Type 0 where
   pub pieces : List Piece
   pub rest : List ℕ
   pub each : AllByRecursion IsPiece pieces
   pub whole : text ≡ flat_map spelling pieces ++ rest
   pub placed : es ≡ elements_from place pieces
-  pub at : fault.at ≡ place + length (flat_map spelling pieces)
-  pub more : 0 < length rest
-  pub none_there : (p : Piece) (behind : List ℕ) → IsPiece p → rest ≡ spelling p ++ behind → ⊥
+  pub on : walk (place + length (flat_map spelling pieces)) rest ≡ w
 
-pub walk-breaks : (place : ℕ) (text : List ℕ) (es : List Element) (fault : EbmlFault) → AreBytes text → AllByRecursion (λ e. e.unknown ≡ false) es → walk place text ≡ broken fault es → Breaks place text es fault
-walk-breaks place text [] fault fits known h =
-    let read = onward-breaks (element_at place text) _ fault (sym (walk-step place text) ∙ h) in
-    let there = element_at-fault place text fault read in
-    record {
-      pieces = [];
-      rest = text;
-      each = tt;
-      whole = refl;
-      placed = refl;
-      at = omega (arith, there.0);
-      more = there.1;
-      none_there = λ p behind is front. ok_or_err (element_at place text) (element_of place p) fault (ap (element_at place) front ∙ element_at-again place p behind is) read;
-    }
-walk-breaks place text (e ∷ es) fault fits known h =
-    let a = onward-gives (element_at place text) _ e (broken fault es) (sym (walk-step place text) ∙ h) in
+pub walk-goes : (place : ℕ) (text : List ℕ) (es : List Element) (w : Walk) → AreBytes text → AllByRecursion (λ e. e.unknown ≡ false) es → walk place text ≡ before es w → Goes place text es w
+walk-goes place text [] w fits known h =
+    record { pieces = []; rest = text; each = tt; whole = refl; placed = refl; on = ap (λ (n : ℕ). walk n text) (omega arith) ∙ h }
+walk-goes place text (e ∷ es) w fits known h =
+    let a = onward-gives (element_at place text) _ e (before es w) (sym (walk-step place text) ∙ h) in
     let one = element_at-stands place text e fits known.0 a.0 in
-    let later = walk-breaks e.end (drop (e.end - place) text) es fault (AreBytes-drop (e.end - place) text fits) known.1 a.1 in
+    let later = walk-goes e.end (drop (e.end - place) text) es w (AreBytes-drop (e.end - place) text fits) known.1 a.1 in
     let end : e.end ≡ place + length (spelling one.piece) = ap (λ (x : Element). x.end) one.placed in
     record {
       pieces = one.piece ∷ later.pieces;
@@ -110,9 +97,7 @@ walk-breaks place text (e ∷ es) fault fits known h =
       each = (one.is, later.each);
       whole = one.front ∙ ap (λ (x : List ℕ). spelling one.piece ++ x) later.whole ∙ sym (append_assoc (spelling one.piece) (flat_map spelling later.pieces) later.rest);
       placed = ap (λ (x : Element). x ∷ es) one.placed ∙ ap (λ (xs : List Element). element_of place one.piece ∷ xs) (later.placed ∙ ap (λ (n : ℕ). elements_from n later.pieces) end);
-      at = omega (arith, later.at, end, length-append (spelling one.piece) (flat_map spelling later.pieces));
-      more = later.more;
-      none_there = later.none_there;
+      on = ap (λ (n : ℕ). walk n later.rest) (omega (arith, end, length-append (spelling one.piece) (flat_map spelling later.pieces))) ∙ later.on;
     }
 
 pub walk-again : (place : ℕ) (ps : List Piece) → AllByRecursion IsPiece ps → walk place (flat_map spelling ps) ≡ whole (elements_from place ps)
@@ -145,24 +130,136 @@ rest_of-end p at_end =
     let empty : ahead p ≡ [] = ap (λ (n : ℕ). take n (drop p.place p.bytes)) none_left in
     walk-step p.place (ahead p) ∙ rw empty refl
 
--- A walk that breaks, by the bytes between two places.
-pub walk-broken : (bytes : List ℕ) (from to : ℕ) (es : List Element) (fault : EbmlFault) → AreBytes bytes → from ≤ to → to ≤ length bytes → AllByRecursion (λ e. e.unknown ≡ false) es
-    → walk from (between bytes from to) ≡ broken fault es → IsBroken bytes from to es fault.at
-walk-broken bytes from to es fault fits order within known h =
+-- A walk that goes on behind some elements, by the bytes between two places.
+pub record GoesOn (bytes : List ℕ) (from to : ℕ) (es : List Element) (w : Walk) : Type 0 where
+  pub at : ℕ
+  pub order : from ≤ at
+  pub within : at ≤ to
+  pub holds : Holds bytes from at es
+  pub on : walk at (between bytes at to) ≡ w
+
+pub walk-on : (bytes : List ℕ) (from to : ℕ) (es : List Element) (w : Walk) → AreBytes bytes → from ≤ to → to ≤ length bytes → AllByRecursion (λ e. e.unknown ≡ false) es
+    → walk from (between bytes from to) ≡ before es w → GoesOn bytes from to es w
+walk-on bytes from to es w fits order within known h =
     let text = between bytes from to in
-    let b = walk-breaks from text es fault (AreBytes-take (to - from) (drop from bytes) (AreBytes-drop from bytes fits)) known h in
-    let front = flat_map spelling b.pieces in
+    let g = walk-goes from text es w (AreBytes-take (to - from) (drop from bytes) (AreBytes-drop from bytes fits)) known h in
+    let front = flat_map spelling g.pieces in
+    let at = from + length front in
     let long : length text ≡ to - from = length-take (to - from) (drop from bytes) ∙ omega (arith, length-drop from bytes, order, within) in
-    let parts : to - from ≡ length front + length b.rest = sym long ∙ ap length b.whole ∙ length-append front b.rest in
-    let at : fault.at ≡ from + length front = b.at in
-    let whole : between bytes from fault.at ≡ front =
-    ap (λ (n : ℕ). take n (drop from bytes)) (omega (arith, at)) ∙ sym (take-take (length front) (to - from) (drop from bytes) (omega (arith, parts)))
-    ∙ ap (take (length front)) b.whole ∙ take_at front b.rest (length front) refl in
-    let behind : between bytes fault.at to ≡ b.rest =
-    sym (drop-between bytes from fault.at to (omega (arith, at)) (omega (arith, at, parts, order))) ∙ ap (drop (fault.at - from)) b.whole ∙ drop_at front b.rest (fault.at - from) (omega (arith, at)) in
+    let parts : to - from ≡ length front + length g.rest = sym long ∙ ap length g.whole ∙ length-append front g.rest in
+    let whole : between bytes from at ≡ front =
+    ap (λ (n : ℕ). take n (drop from bytes)) (omega arith) ∙ sym (take-take (length front) (to - from) (drop from bytes) (omega (arith, parts)))
+    ∙ ap (take (length front)) g.whole ∙ take_at front g.rest (length front) refl in
+    let behind : between bytes at to ≡ g.rest =
+    sym (drop-between bytes from at to (omega arith) (omega (arith, parts, order))) ∙ ap (drop (at - from)) g.whole ∙ drop_at front g.rest (at - from) (omega arith) in
     record {
-      order = omega (arith, at);
-      within = omega (arith, at, parts, b.more, order);
-      before = record { pieces = b.pieces; spelled = record { each = b.each; whole = whole }; placed = b.placed };
-      none_there = λ p rest is spelled. b.none_there p rest is (sym behind ∙ spelled);
+      at = at;
+      order = omega arith;
+      within = omega (arith, parts, order);
+      holds = record { pieces = g.pieces; spelled = record { each = g.each; whole = whole }; placed = g.placed };
+      on = ap (walk at) behind ∙ g.on;
     }
+
+long-between : (bytes : List ℕ) (from to : ℕ) → from ≤ to → to ≤ length bytes → length (between bytes from to) ≡ to - from
+long-between bytes from to order within = length-take (to - from) (drop from bytes) ∙ omega (arith, length-drop from bytes, order, within)
+
+-- An element of unknown size is spelled with its header at the front of what stands from it on.
+open-at : (bytes : List ℕ) (to : ℕ) (e : Element) → e.content ≤ to → to ≤ length bytes → IsOpen bytes to e → Opens e.start (between bytes e.start to) e
+open-at bytes to e inside within o =
+    let text = between bytes e.start to in
+    let before_it : e.start ≤ to = omega (arith, o.content, inside) in
+    let long : length text ≡ to - e.start = long-between bytes e.start to before_it within in
+    let octets = length o.id_octets + length o.size_octets in
+    let behind : drop octets text ≡ between bytes e.content to =
+    ap (λ (n : ℕ). drop n text) (omega (arith, o.content)) ∙ drop-between bytes e.start e.content to (omega (arith, o.content)) inside in
+    record {
+      ids = o.id_octets;
+      sizes = o.size_octets;
+      id = o.id;
+      size = o.size;
+      front = o.spelled ∙ ap (λ (x : List ℕ). o.id_octets ++ (o.size_octets ++ x)) (sym behind);
+      start = refl;
+      content = o.content;
+      end = omega (arith, o.end, long, before_it);
+    }
+
+-- A walk that breaks.
+pub walk-broken : (bytes : List ℕ) (from to : ℕ) (es : List Element) (fault : EbmlFault) → AreBytes bytes → from ≤ to → to ≤ length bytes → AllByRecursion (λ e. e.unknown ≡ false) es
+    → walk from (between bytes from to) ≡ before es (breaks fault) → IsBroken bytes from to es fault.at
+walk-broken bytes from to es fault fits order within known h =
+    let g = walk-on bytes from to es (breaks fault) fits order within known h in
+    let read = onward-breaks (element_at g.at (between bytes g.at to)) _ fault (sym (walk-step g.at (between bytes g.at to)) ∙ g.on) in
+    let there = element_at-fault g.at (between bytes g.at to) fault read in
+    let long = long-between bytes g.at to g.within within in
+    subst (IsBroken bytes from to es) (sym there.0)
+    (record {
+      order = g.order;
+      within = omega (arith, there.1, long);
+      before = g.holds;
+      none_there = λ p rest is spelled. ok_or_err (element_at g.at (between bytes g.at to)) (element_of g.at p) fault (ap (element_at g.at) spelled ∙ element_at-again g.at p rest is) read;
+      none_open = λ e start inside o.
+          let there : Opens g.at (between bytes g.at to) e = subst (λ (n : ℕ). Opens n (between bytes n to) e) start (open-at bytes to e inside within o) in
+          ok_or_err (element_at g.at (between bytes g.at to)) e fault (element_at-opened g.at (between bytes g.at to) e there o.unknown) read;
+    })
+
+before-again : (place : ℕ) (ps : List Piece) (rest : List ℕ) → AllByRecursion IsPiece ps → walk place (flat_map spelling ps ++ rest) ≡ before (elements_from place ps) (walk (place + length (flat_map spelling ps)) rest)
+before-again place [] rest each = ap (λ (n : ℕ). walk n rest) (omega arith)
+before-again place (p ∷ ps) rest each =
+    let later = flat_map spelling ps ++ rest in
+    let text = spelling p ++ later in
+    let first : element_at place text ≡ Ok (Some (element_of place p)) = element_at-again place p later each.0 in
+    let behind : drop (place + length (spelling p) - place) text ≡ later = drop_at (spelling p) later _ (omega arith) in
+    ap (walk place) (append_assoc (spelling p) (flat_map spelling ps) rest) ∙ walk-step place text ∙ ap (λ (r : Result (Option Element) EbmlFault). onward r (λ e. walk e.end (drop (e.end - place) text))) first
+    ∙ ap (gives (element_of place p)) (ap (walk (place + length (spelling p))) behind ∙ before-again (place + length (spelling p)) ps rest each.1)
+    ∙ ap (λ (n : ℕ). gives (element_of place p) (before (elements_from (place + length (spelling p)) ps) (walk n rest))) (omega (arith, length-append (spelling p) (flat_map spelling ps)))
+
+-- An element of unknown size is the last.
+open-alone : (place : ℕ) (text : List ℕ) (e : Element) → e.end ≡ place + length text → element_at place text ≡ Ok (Some e) → walk place text ≡ gives e ends
+unfolding element_at
+open-alone place text e end read =
+    let empty : drop (e.end - place) text ≡ [] = drop_all (e.end - place) text (omega (arith, end)) in
+    walk-step place text ∙ rw read (ap (λ (rest : List ℕ). gives e (walk e.end rest)) empty ∙ ap (gives e) (walk-step e.end []))
+
+-- Elements of known size and one of unknown size behind them are given.
+pub walk-opened : (bytes : List ℕ) (from to : ℕ) (es : List Element) (last : Element) → from ≤ last.start → last.content ≤ to → to ≤ length bytes → Holds bytes from last.start es → IsOpen bytes to last
+    → walk from (between bytes from to) ≡ before es (gives last ends)
+walk-opened bytes from to es last order inside within holds o =
+    let at = last.start in
+    let text = between bytes at to in
+    let before_it : at ≤ to = omega (arith, o.content, inside) in
+    let opens = open-at bytes to last inside within o in
+    let one = open-alone at text last opens.end (element_at-opened at text last opens o.unknown) in
+    let front : length (between bytes from at) ≡ at - from = long-between bytes from at order (omega (arith, before_it, within)) in
+    let whole : between bytes from to ≡ flat_map spelling holds.pieces ++ text =
+    sym (take-append-drop (at - from) (between bytes from to)) ∙ ap (λ (x : List ℕ). x ++ drop (at - from) (between bytes from to)) (take-take (at - from) (to - from) (drop from bytes) (omega (arith, before_it)) ∙ holds.spelled.whole)
+    ∙ ap (λ (x : List ℕ). flat_map spelling holds.pieces ++ x) (drop-between bytes from at to order before_it) in
+    let len : from + length (flat_map spelling holds.pieces) ≡ at = omega (arith, front, ap length holds.spelled.whole, order) in
+    ap (walk from) whole ∙ before-again from holds.pieces text holds.spelled.each ∙ ap (λ (xs : List Element). before xs (walk (from + length (flat_map spelling holds.pieces)) text)) (sym holds.placed)
+    ∙ ap (before es) (ap (λ (n : ℕ). walk n text) len ∙ one)
+
+-- A walk whose last element has an unknown size.
+pub walk-open : (bytes : List ℕ) (from to : ℕ) (es : List Element) (last : Element) → AreBytes bytes → from ≤ to → to ≤ length bytes → AllByRecursion (λ e. e.unknown ≡ false) es → last.unknown ≡ true
+    → walk from (between bytes from to) ≡ before es (gives last ends) → Holds bytes from last.start es × IsOpen bytes to last
+walk-open bytes from to es last fits order within known opened h =
+    let g = walk-on bytes from to es (gives last ends) fits order within known h in
+    let text = between bytes g.at to in
+    let a = onward-gives (element_at g.at text) _ last ends (sym (walk-step g.at text) ∙ g.on) in
+    let o = element_at-opens g.at text last (AreBytes-take (to - g.at) (drop g.at bytes) (AreBytes-drop g.at bytes fits)) opened a.0 in
+    let long : length text ≡ to - g.at = long-between bytes g.at to g.within within in
+    let octets = length o.ids + length o.sizes in
+    let inside : octets ≤ to - g.at = omega (arith, sym long ∙ ap length o.front, length-append o.ids (o.sizes ++ drop octets text), length-append o.sizes (drop octets text)) in
+    let content : last.content ≡ g.at + octets = o.content in
+    let behind : drop octets text ≡ between bytes last.content to =
+    ap (λ (n : ℕ). drop n text) (omega (arith, content)) ∙ drop-between bytes g.at last.content to (omega (arith, content)) (omega (arith, content, inside, g.within)) in (
+      subst (λ (n : ℕ). Holds bytes from n es) (sym o.start) g.holds,
+      record {
+        id_octets = o.ids;
+        size_octets = o.sizes;
+        id = o.id;
+        size = o.size;
+        spelled = ap (λ (n : ℕ). between bytes n to) o.start ∙ o.front ∙ ap (λ (x : List ℕ). o.ids ++ (o.sizes ++ x)) behind;
+        content = content ∙ ap (λ (n : ℕ). n + octets) (sym o.start);
+        unknown = opened;
+        end = omega (arith, o.end, long, g.within);
+      },
+    )

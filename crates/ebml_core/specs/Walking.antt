@@ -54,10 +54,10 @@ abbrev pub whole : List Element → Walk
 whole [] = ends
 whole (e ∷ es) = gives e (whole es)
 
--- the walk that gives these elements, and then breaks at a fault
-abbrev pub broken : EbmlFault → List Element → Walk
-broken fault [] = breaks fault
-broken fault (e ∷ es) = gives e (broken fault es)
+-- the walk that gives these elements, and then goes on so
+abbrev pub before : List Element → Walk → Walk
+before [] rest = rest
+before (e ∷ es) rest = gives e (before es rest)
 
 -- what a walker has yet to give
 abbrev pub rest_of : Position → Walk

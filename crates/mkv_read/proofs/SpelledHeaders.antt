@@ -1,18 +1,18 @@
 -- The header of each element that is read is spelled at the front of the text, and with more behind it, it is read again.
 use Rattle.std.proofs.Common.{◌≡◌, ℕ, suc, ◌+◌, ◌-◌, ◌≤◌, Bool, cond, ltb, true, false, List, [], ◌∷◌, ◌++◌, length, drop, Some, Result, Ok, Err, refl, sym, ap, subst, ◌∙◌, append_assoc, arith}
 use Rattle.std.proofs.lemmas.Bool.{true≢false, le-ltb, ltb-false}
-use Rattle.std.proofs.lemmas.List.{length-append, length-drop, drop_at, take-append-drop, drop-drop}
+use Rattle.std.proofs.lemmas.List.{length-append, length-drop, take-append-drop, drop-drop}
 use Rattle.ebml_core.specs.declared.vint.Size.{Size}
 use Rattle.ebml_core.specs.declared.vint.Size.TheVariants.{Known, Unknown}
 use Rattle.ebml_core.specs.declared.vint.VintFault.{VintFault}
 use Rattle.ebml_core.specs.declared.element.Element.{Element}
 use Rattle.ebml_core.specs.declared.element.Header.{Header}
 use Rattle.ebml_core.specs.declared.element.EbmlWhy.TheVariants as whys
-use Rattle.ebml_core.specs.Spelling.{unsigned_of, size_of, IsId, IsSize, IsVint}
-use Rattle.ebml_core.specs.Reading.{id_at, size_at, header_at, sized, laid, found, element_at}
+use Rattle.ebml_core.specs.Spelling.{unsigned_of, IsId, IsSize}
+use Rattle.ebml_core.specs.Reading.{header_at, sized, laid, found, element_at}
 use Rattle.ebml_core.proofs.Numbers.{AreBytes, AreBytes-drop}
-use Rattle.ebml_core.proofs.Vints.{vint_takes, vint_again}
-use Rattle.ebml_core.proofs.Headers.{header, header_parts, element_is, guarded, laid_found, element_at-some}
+use Rattle.ebml_core.proofs.Vints.{vint_takes}
+use Rattle.ebml_core.proofs.Headers.{header, header_parts, header_from, element_is, record_is, guarded, laid_found, element_at-some}
 use Rattle.mkv_read.specs.Spelled.{size_told}
 
 -- ---- what a header tells of its element
@@ -82,18 +82,6 @@ element_at-heads place (octet ∷ rest) e fits h =
 
 -- ---- read again
 
-record_is : (a b : Element) → a.id ≡ b.id → a.start ≡ b.start → a.content ≡ b.content → a.end ≡ b.end → a.unknown ≡ b.unknown → a ≡ b
-record_is a b id start content end unknown =
-    ap (λ (x : ℕ). element x a.start a.content a.end a.unknown) id ∙ ap (λ (x : ℕ). element b.id x a.content a.end a.unknown) start ∙ ap (λ (x : ℕ). element b.id b.start x a.end a.unknown) content ∙ ap (λ (x : ℕ). element b.id b.start b.content x a.unknown) end ∙ ap (λ (x : Bool). element b.id b.start b.content b.end x) unknown
-  where
-    element : ℕ → ℕ → ℕ → ℕ → Bool → Element
-    element id start content end unknown = record { id = id; start = start; content = content; end = end; unknown = unknown }
-
-header_again : (text ids sizes rest : List ℕ) → text ≡ ids ++ (sizes ++ rest) → IsVint 4 ids → IsVint 8 sizes → header_at text ≡ Ok (header (unsigned_of ids) (size_of sizes) (length ids + length sizes))
-unfolding header_at id_at size_at
-header_again text ids sizes rest front id size =
-    ap header_at front ∙ rw (vint_again 4 ids (sizes ++ rest) (omega arith) id, drop_at ids (sizes ++ rest) (length ids) refl, vint_again 8 sizes rest (omega arith) size) refl
-
 -- the same element, read where its parent ends later
 pub record IsAgain (place : ℕ) (text : List ℕ) (d z : Element) : Type 0 where
   pub read : element_at place text ≡ Ok (Some z)
@@ -117,7 +105,7 @@ heads-again place text more d h = by_size d.unknown refl
     some = omega (arith, ap length front, length-append h.ids (h.sizes ++ (drop octets text ++ more)), h.some)
 
     read : (size : Size) → size_told d ≡ size → element_at place far ≡ found (sized place (length far) (header (unsigned_of h.ids) size octets) size)
-    read size told = element_at-some place far some ∙ ap (λ (r : Result Header VintFault). found (laid place (length far) r)) (header_again far h.ids h.sizes _ front h.id.0 h.size.0) ∙ ap (λ (s : Size). found (sized place (length far) (header (unsigned_of h.ids) s octets) s)) (sym h.size.1 ∙ told)
+    read size told = element_at-some place far some ∙ ap (λ (r : Result Header VintFault). found (laid place (length far) r)) (header_from far h.ids h.sizes _ front h.id.0 h.size.0) ∙ ap (λ (s : Size). found (sized place (length far) (header (unsigned_of h.ids) s octets) s)) (sym h.size.1 ∙ told)
 
     by_size : (unknown : Bool) → d.unknown ≡ unknown → (z : Element) × IsAgain place far d z
     by_size true opened =

@@ -2,7 +2,7 @@ use Rattle.std.proofs.Common.{ap, sym, ◌∙◌}
 use Rattle.ebml_core.specs.Spelling.{between}
 use Rattle.ebml_core.specs.Walking.{walk, whole}
 use Rattle.ebml_core.proofs.Numbers.{AreBytes-take, AreBytes-drop}
-use Rattle.ebml_core.proofs.Walks.{walk-lies, walk-again, walk-broken}
+use Rattle.ebml_core.proofs.Walks.{walk-lies, walk-again, walk-broken, walk-open, walk-opened}
 use Rattle.ebml_core.proofs.laws.walk_is_spelling.Goals as goal
 
 pub returns-clause-walked : goal.returns-clause-walked
@@ -16,3 +16,9 @@ returns-clause-spelled c = λ bytes from to es holds.
 
 pub returns-clause-faulty : goal.returns-clause-faulty
 returns-clause-faulty c = λ bytes from to es fault fits order within known h. walk-broken bytes from to es fault fits order within known h
+
+pub returns-clause-open : goal.returns-clause-open
+returns-clause-open c = λ bytes from to es last fits order within known opened h. walk-open bytes from to es last fits order within known opened h
+
+pub returns-clause-opened : goal.returns-clause-opened
+returns-clause-opened c = λ bytes from to es last order inside within holds o. walk-opened bytes from to es last order inside within holds o
