@@ -1,48 +1,79 @@
--- Where an element of unknown size ends.
-use Rattle.std.proofs.Common.{◌≡◌, ℕ, zero, suc, ◌-◌, ◌<◌, Bool, true, false, cond, eqb, List, length, drop, Option, Some, None, Result, Ok, Err, refl, ap, ◌∙◌, arith}
+-- What a walker has yet to go over, and where an element of unknown size ends.
+use Rattle.std.proofs.Common.{◌≡◌, ℕ, ◌+◌, ◌-◌, ◌≤◌, Bool, true, false, cond, eqb, List, ◌++◌, length, take, drop, Some, Result, Ok, Err, refl, sym, ap, ◌∙◌, subst, arith}
+use Rattle.std.specs.Prelude.{IfOk}
 use Rattle.std.specs.List.{list_any}
+use Rattle.std.proofs.lemmas.List.{length-append, length-drop, length-take, drop-take, drop-drop, drop_all}
 use Rattle.ebml_core.specs.declared.element.Element.{Element}
 use Rattle.ebml_core.specs.declared.element.EbmlFault.{EbmlFault}
-use Rattle.ebml_core.specs.Reading.{element_at}
-use Rattle.ebml_core.specs.Walking.{Walk, ends, breaks, gives, onward, walk_upto, walk, end_before}
-use Rattle.ebml_core.proofs.Headers.{element_at-advances, element_at-starts}
+use Rattle.ebml_core.specs.Spelling.{between}
+use Rattle.ebml_core.specs.Reading.{found, element_at}
+use Rattle.ebml_core.specs.Listing.{Listing, ends, breaks, gives, Begins, EndsWithParent, end_before}
+use Rattle.ebml_core.specs.Walking.{Position, ahead, HasAhead}
+use Rattle.ebml_core.proofs.Numbers.{AreBytes, AreBytes-drop}
+use Rattle.ebml_core.proofs.Vints.{vint_takes-bytes}
+use Rattle.ebml_core.proofs.Headers.{TakesElement, element_parts, HeaderParts, header_parts, IsHeaded, headed-stands, headed-opens, element_at-fault, record_is}
+use Rattle.ebml_core.proofs.Listings.{stands-begins, opens-begins, none-begins}
+
+pub drop-between : (bytes : List ℕ) (from mid to : ℕ) → from ≤ mid → mid ≤ to → drop (mid - from) (between bytes from to) ≡ between bytes mid to
+drop-between bytes from mid to le le2 =
+    let parts : to - from ≡ (mid - from) + (to - mid) = omega arith in
+    ap (λ (n : ℕ). drop (mid - from) (take n (drop from bytes))) parts ∙ drop-take (mid - from) (to - mid) (drop from bytes) ∙ ap (take (to - mid)) (drop-drop (mid - from) from bytes ∙ ap (λ (n : ℕ). drop n bytes) (omega arith))
+
+pub long-between : (bytes : List ℕ) (from to : ℕ) → from ≤ to → to ≤ length bytes → length (between bytes from to) ≡ to - from
+long-between bytes from to order within = length-take (to - from) (drop from bytes) ∙ omega (arith, length-drop from bytes, order, within)
 
 abbrev stops : List ℕ → Element → Bool
 stops ids e = list_any (λ id. eqb id e.id) ids
 
-pub end_before-here : (ids : List ℕ) (end : ℕ) (w : Walk) (e : Element) (rest : Walk) → w ≡ gives e rest → stops ids e ≡ true → end_before ids end w ≡ e.start
+pub end_before-here : (ids : List ℕ) (end : ℕ) (e : Element) (later : Listing) → stops ids e ≡ true → end_before ids end (gives e later) ≡ e.start
 unfolding end_before
-end_before-here ids end w e rest is stop = ap (end_before ids end) is ∙ ap (λ (b : Bool). cond b e.start (end_before ids end rest)) stop
+end_before-here ids end e later stop = ap (λ (b : Bool). cond b e.start (end_before ids end later)) stop
 
-pub end_before-past : (ids : List ℕ) (end : ℕ) (w : Walk) (e : Element) (rest : Walk) → w ≡ gives e rest → stops ids e ≡ false → end_before ids end w ≡ end_before ids end rest
+pub end_before-past : (ids : List ℕ) (end : ℕ) (e : Element) (later : Listing) → stops ids e ≡ false → end_before ids end (gives e later) ≡ end_before ids end later
 unfolding end_before
-end_before-past ids end w e rest is past = ap (end_before ids end) is ∙ ap (λ (b : Bool). cond b e.start (end_before ids end rest)) past
+end_before-past ids end e later past = ap (λ (b : Bool). cond b e.start (end_before ids end later)) past
 
-pub end_before-ends : (ids : List ℕ) (end : ℕ) (w : Walk) → w ≡ ends → end_before ids end w ≡ end
-unfolding end_before
-end_before-ends ids end w is = ap (end_before ids end) is
-
-pub end_before-breaks : (ids : List ℕ) (end : ℕ) (w : Walk) (fault : EbmlFault) → w ≡ breaks fault → end_before ids end w ≡ end
-unfolding end_before
-end_before-breaks ids end w fault is = ap (end_before ids end) is
-
--- An element ends behind every place that stands before its content and its parent's end.
-end_before-above_upto : (ids : List ℕ) (low end most place : ℕ) (text : List ℕ) → low < end → low < place → low < end_before ids end (walk_upto most place text)
-unfolding end_before walk_upto
-end_before-above_upto ids low end zero place text below before = below
-end_before-above_upto ids low end (suc most) place text below before =
-    at_element (element_at place text) refl (λ e above. end_before-above_upto ids low end most e.end (drop (e.end - place) text) below above)
+-- An element that is read begins the text.
+pub read-begins : (place : ℕ) (text : List ℕ) (e : Element) → AreBytes text → element_at place text ≡ Ok (Some e) → Begins EndsWithParent place text e (drop (e.end - place) text)
+read-begins place text e fits read = by_size e.unknown refl
   where
-    by_test : (e : Element) (later : ℕ) (stop : Bool) → low < e.start → low < later → low < cond stop e.start later
-    by_test e later true here above = here
-    by_test e later false here above = above
+    a : TakesElement place text e
+    a = element_parts place text e read
 
-    at_element : (r : Result (Option Element) EbmlFault) → element_at place text ≡ r → ((e : Element) → low < e.end → low < end_before ids end (walk_upto most e.end (drop (e.end - place) text))) → low < end_before ids end (onward r (λ e. walk_upto most e.end (drop (e.end - place) text)))
-    at_element (Ok None) is later = below
-    at_element (Err fault) is later = below
-    at_element (Ok (Some e)) is later =
-        by_test e _ (stops ids e) (omega (arith, before, (element_at-starts place text e is).0)) (later e (omega (arith, before, (element_at-advances place text e is).more)))
+    p : HeaderParts text a.head
+    p = header_parts text a.head a.read
 
-pub end_before-above : (ids : List ℕ) (low end place : ℕ) (text : List ℕ) → low < end → low < place → low < end_before ids end (walk place text)
-unfolding walk
-end_before-above ids low end place text below before = end_before-above_upto ids low end (suc (length text)) place text below before
+    headed : IsHeaded text p.ids p.sizes
+    headed = record { id = vint_takes-bytes 4 text p.ids (omega arith) fits p.id; size = vint_takes-bytes 8 (drop (length p.ids) text) p.sizes (omega arith) (AreBytes-drop (length p.ids) text fits) p.size }
+
+    by_size : (unknown : Bool) → e.unknown ≡ unknown → Begins EndsWithParent place text e (drop (e.end - place) text)
+    by_size false known = stands-begins EndsWithParent place text e (headed-stands place text e a p headed known)
+    by_size true opened =
+        let o = headed-opens place text e a p headed opened in
+        let behind = drop (length o.ids + length o.sizes) text in
+        let all = opens-begins EndsWithParent place text e o (length behind) (omega arith) (drop_all (length behind) behind (omega arith)) in
+        let long : length behind ≡ length text - (length o.ids + length o.sizes) = length-drop (length o.ids + length o.sizes) text in
+        let whole : length text ≡ length o.ids + (length o.sizes + length behind) = ap length o.front ∙ length-append o.ids (o.sizes ++ behind) ∙ ap (λ (n : ℕ). length o.ids + n) (length-append o.sizes behind) in
+        let same : record { id = e.id; start = place; content = e.content; end = e.content + length behind; unknown = true } ≡ e = record_is _ e refl (sym o.start) refl (omega (arith, o.content, o.end, whole)) (sym opened) in
+        let none_left : drop (length behind) behind ≡ drop (e.end - place) text = drop_all (length behind) behind (omega arith) ∙ sym (drop_all (e.end - place) text (omega (arith, o.end))) in
+        subst (λ (d : Element). Begins EndsWithParent place text d (drop (e.end - place) text)) same (subst (Begins EndsWithParent place text _) none_left all)
+
+-- ---- a walker's next answer
+
+pub ahead-end : (p : Position) → p.place ≡ p.end → HasAhead p ends
+ahead-end p at_end =
+    let none_left : p.end - p.place ≡ 0 = omega arith in
+    ap (λ (n : ℕ). take n (drop p.place p.bytes)) none_left
+
+pub ahead-fault : (p : Position) (fault : EbmlFault) → element_at p.place (ahead p) ≡ Err fault → HasAhead p (breaks fault.at)
+ahead-fault p fault read = let there = element_at-fault p.place (ahead p) fault read in (there.0, there.1, none-begins EndsWithParent p.place (ahead p) fault read)
+
+pub ahead-gives : (p : Position) (e : Element) (later : Listing) → p.place ≤ e.end → e.end ≤ p.end → Begins EndsWithParent p.place (ahead p) e (drop (e.end - p.place) (ahead p)) → HasAhead (record p { place = e.end }) later → HasAhead p (gives e later)
+ahead-gives p e later order within begins h =
+    let rest : drop (e.end - p.place) (ahead p) ≡ between p.bytes e.end p.end = drop-between p.bytes p.place e.end p.end order within in
+    (between p.bytes e.end p.end, subst (Begins EndsWithParent p.place (ahead p) e) rest begins, h)
+
+-- whatever was found
+pub found-begins : (place : ℕ) (text : List ℕ) (r : Result Element EbmlFault) → AreBytes text → element_at place text ≡ found r → IfOk r (λ e. Begins EndsWithParent place text e (drop (e.end - place) text))
+found-begins place text (Ok e) fits read = read-begins place text e fits read
+found-begins place text (Err fault) fits read = tt

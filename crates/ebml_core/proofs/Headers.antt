@@ -1,7 +1,6 @@
 -- An element that is read at the front of a text is spelled there, and one that is spelled there is read.
 use Rattle.std.proofs.Common.{◌≡◌, ℕ, suc, ◌+◌, ◌-◌, ◌<◌, ◌≤◌, Bool, cond, ltb, true, false, List, [], ◌∷◌, ◌++◌, length, take, drop, Some, None, Result, Ok, Err, refl, sym, ap, subst, ◌∙◌, append_assoc, arith}
 use Rattle.std.proofs.lemmas.Bool.{true≢false, le-ltb, ltb-false}
-use Rattle.std.proofs.lemmas.Bool.Decides.{nat_tests}
 use Rattle.std.proofs.lemmas.List.{length-append, length-take-le, length-drop, drop_at, take-append-drop, drop-drop}
 use Rattle.ebml_core.specs.declared.vint.Size.{Size}
 use Rattle.ebml_core.specs.declared.vint.Size.TheVariants.{Known, Unknown}
@@ -13,18 +12,14 @@ use Rattle.ebml_core.specs.declared.element.EbmlFault.{EbmlFault}
 use Rattle.ebml_core.specs.declared.element.EbmlWhy.TheVariants as whys
 use Rattle.ebml_core.specs.Spelling.{unsigned_of, size_of, Piece, IsPiece, spelling, element_of, IsId, IsSize, IsVint}
 use Rattle.ebml_core.specs.Reading.{◌>>=◌, octet_count, vint_at, id_at, size_at, header_at, why_of, sized, laid, found, element_at}
-use Rattle.ebml_core.proofs.Numbers.{AreBytes, AreBytes-drop}
-use Rattle.ebml_core.proofs.Vints.{ok_is, passed, vint_takes, vint_again}
+use Rattle.ebml_core.proofs.Numbers.{AreBytes}
+use Rattle.ebml_core.proofs.Vints.{ok_is, passed, TakesVint, vint_takes-bytes, octet_count-some, vint_again}
 use Rattle.ebml_core.proofs.Pieces.{vint-some, spelling-some}
 
 -- the value of a step that did not fail
 pub bind_ok : {A B E : Type 0} (r : Result A E) (f : A → Result B E) (y : B) → (r >>= f) ≡ Ok y → (x : A) × (r ≡ Ok x) × (f x ≡ Ok y)
 bind_ok (Ok x) f y e = (x, refl, e)
 bind_ok (Err d) f y e = absurd cc
-
-octet_count-some : (first : ℕ) → 1 ≤ octet_count first
-unfolding octet_count
-octet_count-some first = grind (arith, nat_tests)
 
 vint_at-some : (most : ℕ) (text octets : List ℕ) → vint_at most text ≡ Ok octets → 1 ≤ length octets
 unfolding vint_at
@@ -110,7 +105,7 @@ pub record TakesElement (place : ℕ) (text : List ℕ) (e : Element) : Type 0 w
   pub read : header_at text ≡ Ok head
   pub is : sized place (length text) head head.size ≡ Ok e
 
-element_parts : (place : ℕ) (text : List ℕ) (e : Element) → element_at place text ≡ Ok (Some e) → TakesElement place text e
+pub element_parts : (place : ℕ) (text : List ℕ) (e : Element) → element_at place text ≡ Ok (Some e) → TakesElement place text e
 unfolding element_at
 element_parts place [] e h = absurd cc
 element_parts place (octet ∷ rest) e h =
@@ -177,12 +172,15 @@ sized_known place room h (Known size) e known is =
     let a = guarded (ltb room (h.octets + size)) _ _ e is in
     (size, refl, ltb-false room (h.octets + size) a.0, a.1)
 
-pub element_at-stands : (place : ℕ) (text : List ℕ) (e : Element) → AreBytes text → e.unknown ≡ false → element_at place text ≡ Ok (Some e) → Stands place text e
-element_at-stands place text e fits known h =
-    let a = element_parts place text e h in
-    let p = header_parts text a.head a.read in
-    let v = vint_takes 4 text p.ids (omega arith) fits p.id in
-    let w = vint_takes 8 (drop (length p.ids) text) p.sizes (omega arith) (AreBytes-drop (length p.ids) text fits) p.size in
+-- A header that is read has an id and a size at the front of the text.
+pub record IsHeaded (text ids sizes : List ℕ) : Type 0 where
+  pub id : TakesVint 4 text ids
+  pub size : TakesVint 8 (drop (length ids) text) sizes
+
+pub headed-stands : (place : ℕ) (text : List ℕ) (e : Element) → (a : TakesElement place text e) → (p : HeaderParts text a.head) → IsHeaded text p.ids p.sizes → e.unknown ≡ false → Stands place text e
+headed-stands place text e a p headed known =
+    let v = headed.id in
+    let w = headed.size in
     let octets : length p.ids + length p.sizes ≡ a.head.octets = ap (λ (g : Header). g.octets) p.is in
     let id : unsigned_of p.ids ≡ a.head.id = ap (λ (g : Header). g.id) p.is in
     let size : size_of p.sizes ≡ a.head.size = ap (λ (g : Header). g.size) p.is in
@@ -224,12 +222,10 @@ sized_unknown place room h (Known size) e opened is =
     let a = guarded (ltb room (h.octets + size)) _ _ e is in
     absurd (true≢false (sym opened ∙ sym (ap (λ (x : Element). x.unknown) a.1)))
 
-pub element_at-opens : (place : ℕ) (text : List ℕ) (e : Element) → AreBytes text → e.unknown ≡ true → element_at place text ≡ Ok (Some e) → Opens place text e
-element_at-opens place text e fits opened h =
-    let a = element_parts place text e h in
-    let p = header_parts text a.head a.read in
-    let v = vint_takes 4 text p.ids (omega arith) fits p.id in
-    let w = vint_takes 8 (drop (length p.ids) text) p.sizes (omega arith) (AreBytes-drop (length p.ids) text fits) p.size in
+pub headed-opens : (place : ℕ) (text : List ℕ) (e : Element) → (a : TakesElement place text e) → (p : HeaderParts text a.head) → IsHeaded text p.ids p.sizes → e.unknown ≡ true → Opens place text e
+headed-opens place text e a p headed opened =
+    let v = headed.id in
+    let w = headed.size in
     let s = sized_unknown place (length text) a.head a.head.size e opened a.is in
     let ids : text ≡ p.ids ++ drop (length p.ids) text = sym (take-append-drop (length p.ids) text) ∙ ap (λ (x : List ℕ). x ++ drop (length p.ids) text) (sym v.front) in
     let sizes : drop (length p.ids) text ≡ p.sizes ++ drop (length p.ids + length p.sizes) text = sym (take-append-drop (length p.sizes) (drop (length p.ids) text)) ∙ ap (λ (x : List ℕ). x ++ drop (length p.sizes) (drop (length p.ids) text)) (sym w.front) ∙ ap (λ (x : List ℕ). p.sizes ++ x) (drop-drop (length p.sizes) (length p.ids) text) in
@@ -284,7 +280,7 @@ pub size_at-takes : (text : List ℕ) (size : Size) (octets : ℕ) → AreBytes 
 unfolding size_at
 size_at-takes text size octets fits h =
     let a = bind_ok (vint_at 8 text) (λ octets. Ok (size_of octets, length octets)) (size, octets) h in
-    let v = vint_takes 8 text a.0 (omega arith) fits a.1 in
+    let v = vint_takes-bytes 8 text a.0 (omega arith) fits a.1 in
     let pair = size_pair_is (size_of a.0, length a.0) (size, octets) a.2 in
     let len : length a.0 ≡ octets = ap (λ (x : Size × ℕ). x.1) pair in
     let front : a.0 ≡ take octets text = v.front ∙ ap (λ (n : ℕ). take n text) len in

@@ -2,5 +2,6 @@ pub mod Numbers
 pub mod Vints
 pub mod Pieces
 pub mod Headers
-pub mod Walks
+pub mod Listings
+pub mod Knowns
 pub mod Endings

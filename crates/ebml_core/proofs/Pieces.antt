@@ -9,7 +9,7 @@ use Rattle.ebml_core.specs.Reading.{vint_at}
 use Rattle.ebml_core.proofs.Vints.{vint_again, ok_is}
 
 -- Two texts that begin with variable size integers begin with the same one.
-same_vints : (most : ℕ) (a b x y : List ℕ) → most ≤ 8 → IsVint most a → IsVint most b → a ++ x ≡ b ++ y → (a ≡ b) × (x ≡ y)
+pub same_vints : (most : ℕ) (a b x y : List ℕ) → most ≤ 8 → IsVint most a → IsVint most b → a ++ x ≡ b ++ y → (a ≡ b) × (x ≡ y)
 same_vints most a b x y le va vb e =
     let one : a ≡ b = ok_is a b (sym (vint_again most a x le va) ∙ ap (vint_at most) e ∙ vint_again most b y le vb) in
     (one, append_cancel_left b x y (ap (λ (w : List ℕ). w ++ x) (sym one) ∙ e))

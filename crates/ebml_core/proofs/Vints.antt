@@ -134,18 +134,36 @@ pub record TakesVint (most : ℕ) (bytes octets : List ℕ) : Type 0 where
   pub long : length octets ≤ length bytes
   pub some : 1 ≤ length octets
 
-vint_takes-at : (most count first : ℕ) (rest : List ℕ) → most ≤ 8 → AreBytes (first ∷ rest) → IsFirst first (suc count) → suc count ≤ most → suc count ≤ suc (length rest) → TakesVint most (first ∷ rest) (first ∷ take count rest)
+vint_takes-at : (most count first : ℕ) (rest : List ℕ) → most ≤ 8 → AreBytes (first ∷ take count rest) → IsFirst first (suc count) → suc count ≤ most → suc count ≤ suc (length rest) → TakesVint most (first ∷ rest) (first ∷ take count rest)
 vint_takes-at most count first rest le fits h few long =
     let len : length (take count rest) ≡ count = length-take-le count rest (omega arith) in
     let h' : IsFirst first (suc (length (take count rest))) = rw len h in
     record {
-      vint = vint-from_first most first (take count rest) (fits.0, AreBytes-take count rest fits.1) (omega (arith, len)) (omega (arith, len)) h';
+      vint = vint-from_first most first (take count rest) fits (omega (arith, len)) (omega (arith, len)) h';
       front = ap (λ (n : ℕ). first ∷ take n rest) (sym len);
       long = omega (arith, len);
       some = omega arith;
     }
 
-pub vint_takes : (most : ℕ) (bytes octets : List ℕ) → most ≤ 8 → AreBytes bytes → vint_at most bytes ≡ Ok octets → TakesVint most bytes octets
+-- Octets that are read are some of the text's.
+pub vint_at-octets : (most : ℕ) (text octets : List ℕ) → vint_at most text ≡ Ok octets → (n : ℕ) × (take n text ≡ octets)
+unfolding vint_at
+vint_at-octets most [] octets e = absurd cc
+vint_at-octets most (first ∷ rest) octets e =
+    let a = passed (ltb most (octet_count first)) BadVint _ octets e in
+    let b = passed (ltb (suc (length rest)) (octet_count first)) Short (Ok (take (octet_count first) (first ∷ rest))) octets a.1 in
+    (octet_count first, ok_is _ octets b.1)
+
+first_fits : (count first : ℕ) (rest : List ℕ) → 1 ≤ count → AreBytes (take count (first ∷ rest)) → first < 256
+first_fits zero first rest some fits = absurd (omega arith)
+first_fits (suc count) first rest some fits = fits.0
+
+pub octet_count-some : (first : ℕ) → 1 ≤ octet_count first
+unfolding octet_count
+octet_count-some first = grind (arith, nat_tests)
+
+-- What is read of bytes is a variable size integer; so it is where only the octets that are read are known to be bytes.
+pub vint_takes : (most : ℕ) (text octets : List ℕ) → most ≤ 8 → AreBytes octets → vint_at most text ≡ Ok octets → TakesVint most text octets
 unfolding vint_at octet_count
 vint_takes most [] octets le fits e = absurd cc
 vint_takes most (zero ∷ rest) octets le fits e =
@@ -153,16 +171,23 @@ vint_takes most (zero ∷ rest) octets le fits e =
     absurd (omega (arith, ltb-false most 9 a.0))
 vint_takes most (suc low ∷ rest) octets le fits e =
     let first = suc low in
-    let k = counted first (omega arith) fits.0 in
-    let n = k.count - 1 in
-    let counts : octet_count first ≡ suc n = octet_count-of first k.count k.some k.most k.first_is ∙ omega (arith, k.some) in
     let a = passed (ltb most (octet_count first)) BadVint _ octets e in
     let b = passed (ltb (suc (length rest)) (octet_count first)) Short (Ok (take (octet_count first) (first ∷ rest))) octets a.1 in
+    let read : AreBytes (take (octet_count first) (first ∷ rest)) = subst AreBytes (sym (ok_is _ octets b.1)) fits in
+    let k = counted first (omega arith) (first_fits (octet_count first) first rest (octet_count-some first) read) in
+    let n = k.count - 1 in
+    let counts : octet_count first ≡ suc n = octet_count-of first k.count k.some k.most k.first_is ∙ omega (arith, k.some) in
     let few = ltb-false most (octet_count first) a.0 in
     let long = ltb-false (suc (length rest)) (octet_count first) b.0 in
     let h : IsFirst first (suc n) = subst (λ (m : ℕ). IsFirst first m) (omega (arith, k.some)) k.first_is in
     let octets_are : first ∷ take n rest ≡ octets = ap (λ (m : ℕ). take m (first ∷ rest)) (sym counts) ∙ ok_is _ octets b.1 in
-    subst (λ (x : List ℕ). TakesVint most (first ∷ rest) x) octets_are (vint_takes-at most n first rest le fits h (omega (arith, few, counts)) (omega (arith, long, counts)))
+    subst (λ (x : List ℕ). TakesVint most (first ∷ rest) x) octets_are (vint_takes-at most n first rest le (subst AreBytes (sym octets_are) fits) h (omega (arith, few, counts)) (omega (arith, long, counts)))
+
+-- So it is where the whole text is known to be bytes.
+pub vint_takes-bytes : (most : ℕ) (text octets : List ℕ) → most ≤ 8 → AreBytes text → vint_at most text ≡ Ok octets → TakesVint most text octets
+vint_takes-bytes most text octets le fits e =
+    let some = vint_at-octets most text octets e in
+    vint_takes most text octets le (subst AreBytes some.1 (AreBytes-take some.0 text fits)) e
 
 pub vint_again : (most : ℕ) (octets rest : List ℕ) → most ≤ 8 → IsVint most octets → vint_at most (octets ++ rest) ≡ Ok octets
 unfolding vint_at unsigned_of

@@ -1,5 +1,5 @@
 -- How elements are spelled (RFC 8794 sections 4 to 6): an id, a size, and content of that size, one element after the other.
-use Rattle.std.specs.Prelude.{◌≡◌, ℕ, ◌+◌, ◌-◌, ◌*◌, ◌^◌, ◌<◌, ◌≤◌, ◌==◌, List, [], ◌∷◌, ◌++◌, length, take, drop, true, false, if◌then◌else◌}
+use Rattle.std.specs.Prelude.{◌≡◌, ℕ, ◌+◌, ◌-◌, ◌*◌, ◌^◌, ◌<◌, ◌≤◌, ◌==◌, List, [], ◌∷◌, ◌++◌, length, take, drop, false, if◌then◌else◌}
 use Rattle.std.specs.List.{fold, flat_map, AllByRecursion}
 use Rattle.ebml_core.specs.declared.vint.Size.{Size}
 use Rattle.ebml_core.specs.declared.vint.Size.TheVariants.{Known, Unknown}
@@ -75,22 +75,3 @@ pub record Holds (bytes : List ℕ) (from to : ℕ) (elements : List Element) : 
   pub pieces : List Piece
   pub spelled : Spells (between bytes from to) pieces
   pub placed : elements ≡ elements_from from pieces
-
--- An element of unknown size starts where it says: its id, a size that says so, and all that stands behind it up to a place as its content.
-pub record IsOpen (bytes : List ℕ) (to : ℕ) (e : Element) : Type 0 where
-  pub id_octets : List ℕ
-  pub size_octets : List ℕ
-  pub id : IsId id_octets e.id
-  pub size : IsSize size_octets Unknown
-  pub spelled : between bytes e.start to ≡ id_octets ++ (size_octets ++ between bytes e.content to)
-  pub content : e.content ≡ e.start + (length id_octets + length size_octets)
-  pub unknown : e.unknown ≡ true
-  pub end : e.end ≡ to
-
--- From one place up to another the bytes are these elements, all of known size, and behind them more bytes that begin with no element.
-pub record IsBroken (bytes : List ℕ) (from to : ℕ) (elements : List Element) (at : ℕ) : Type 0 where
-  pub order : from ≤ at
-  pub within : at < to
-  pub before : Holds bytes from at elements
-  pub none_there : (p : Piece) (rest : List ℕ) → IsPiece p → between bytes at to ≡ spelling p ++ rest → ⊥
-  pub none_open : (e : Element) → e.start ≡ at → e.content ≤ to → IsOpen bytes to e → ⊥

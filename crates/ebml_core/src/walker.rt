@@ -1,6 +1,7 @@
-ghost use Rattle.std.specs.Prelude.{◌≡◌, ℕ, ◌+◌, ◌-◌, ◌^◌, ◌*◌, ◌<◌, ◌≤◌, length, IfOk, IfSome};
+ghost use Rattle.std.specs.Prelude.{◌≡◌, ℕ, ◌+◌, ◌-◌, ◌^◌, ◌*◌, ◌<◌, ◌≤◌, length, drop, IfOk, IfSome};
 ghost use Rattle.ebml_core.specs.Reading.{header_at, sized, element_at, found};
-ghost use Rattle.ebml_core.specs.Walking.{Position, ahead, place_after, LiesAt, rest_of, given, end_before};
+ghost use Rattle.ebml_core.specs.Listing.{Listing, Begins, EndsWithParent, end_before};
+ghost use Rattle.ebml_core.specs.Walking.{Position, ahead, HasAhead, place_after, LiesAt, given};
 
 use crate::element::{EbmlFault, EbmlWhy, Element, Header};
 use crate::vint::{Size, VintFault, vint_id, vint_size};
@@ -57,6 +58,7 @@ fn element(place: u64, text: &[u8]) -> Result<Element, EbmlFault>
     requires fits { place + length text.now < 2 ^ 64 }
     ensures exact { element_at place text.now ≡ found result }
     ensures lies { IfOk result (λ e. LiesAt place (place + length text.now) e) }
+    ensures begins { IfOk result (λ e. Begins EndsWithParent place text.now e (drop (e.end - place) text.now)) }
 {
     match header(text) {
         Ok(header) => sized(place, text.len() as u64, header),
@@ -107,8 +109,8 @@ impl<'a> Walker<'a> {
         ensures place { self.new ≡ record self.old { place = place_after self.old.place result } }
         ensures lies { IfOk result (λ found. IfSome found (LiesAt self.old.place self.old.end)) }
 
-        // What the walk still gives is this answer, and then what it gives from here on.
-        ensures walk { rest_of self.old ≡ given result (rest_of self.new) }
+        // What it was to go over lists this answer first, and then what it is to go over from here on.
+        ensures listed { (later : Listing) → HasAhead self.new later → HasAhead self.old (given result later) }
     {
         if self.place == self.end {
             return Ok(None);
@@ -120,9 +122,10 @@ impl<'a> Walker<'a> {
     }
 
     /// Where the first element of one of these ids starts, or the walk's end where none comes before that
-    /// and before the first faulty element: so an element of unknown size ends whose content is walked.
+    /// and before the first faulty element: so an element of unknown size ends whose content is walked
+    /// (RFC 8794 section 6.2).
     pub fn end_before(mut self, ids: &[u32]) -> u64
-        ensures exact { result ≡ end_before ids.now self.entry.end (rest_of self.entry) }
+        ensures exact { (listing : Listing) × HasAhead self.entry listing × (result ≡ end_before ids.now self.entry.end listing) }
         ensures within { (self.entry.place ≤ result) × (result ≤ self.entry.end) }
     {
         loop {

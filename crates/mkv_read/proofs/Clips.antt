@@ -13,12 +13,12 @@ use Rattle.mkv_read.specs.declared.fault.ClipFault.{ClipFault}
 use Rattle.mkv_read.specs.declared.fault.ClipFault.TheVariants as faults
 use Rattle.mkv_read.specs.declared.fault.Which.TheVariants as limits
 use Rattle.mkv_read.specs.declared.track.Track.{Track}
-use Rattle.mkv_read.specs.Elements.{next_at}
+use Rattle.mkv_read.specs.Elements.{elements}
 use Rattle.mkv_read.specs.Faults.{fault_in}
 use Rattle.mkv_read.specs.Blocks.{blocks_in, block_fault, else_fault, fault_after}
 use Rattle.mkv_read.specs.Tracks.{track_of}
 use Rattle.mkv_read.specs.Taking.{Gives, Taken, nothing_taken, counted, kept, taken_after, take, take_all, outcome, finished_as, finished, number_in, read}
-use Rattle.mkv_read.specs.Clip.{segment_of, file_of, is_element, fault_of, is_matroska, packed, clip_with, unless_faulty, require, clip_of}
+use Rattle.mkv_read.specs.Clip.{segment_of, file_of, begins_with, fault_of, is_matroska, packed, clip_with, unless_faulty, require, clip_of}
 use Rattle.mkv_read.specs.Limits.{max_frames, depth}
 
 abbrev packet_of : Block → Place
@@ -123,7 +123,7 @@ same_reading true true None (Ok t) blocks = finished-taken t (blocks (Some t.num
 pub read-clip : (bytes : List ℕ) → read bytes ≡ clip_of bytes
 unfolding read clip_of fault_of
 read-clip bytes =
-    same_reading (is_element EBML (next_at bytes 0 (length bytes))) (is_matroska bytes) (fault_in depth bytes FILE (file_of bytes)) (track_of bytes (segment_of bytes)) (λ number. blocks_in depth bytes number FILE 0 (file_of bytes))
+    same_reading (begins_with EBML (elements bytes 0 (length bytes))) (is_matroska bytes) (fault_in depth bytes FILE (file_of bytes)) (track_of bytes (segment_of bytes)) (λ number. blocks_in depth bytes number FILE 0 (file_of bytes))
 
 pub read_gives : (bytes : List ℕ) (r : Result ClipIndex ClipFault) → Gives (λ clip. clip) r (read bytes) → Gives (λ clip. clip) r (clip_of bytes)
 read_gives bytes r gives = subst (λ (x : Result ClipIndex ClipFault). Gives (λ (clip : ClipIndex). clip) r x) (read-clip bytes) gives

@@ -3,7 +3,7 @@ use Rattle.std.proofs.Common.{◌≡◌, ℕ, zero, suc, Bool, true, false, cond
 use Rattle.std.specs.Prelude.{not}
 use Rattle.std.proofs.lemmas.Bool.{eqb-true, eq-eqb, le-ltb}
 use Rattle.ebml_core.specs.declared.element.Element.{Element}
-use Rattle.ebml_core.specs.Walking.{Walk, ends, breaks, gives, whole}
+use Rattle.ebml_core.specs.Listing.{Listing, ends, breaks, gives, whole}
 use Rattle.mkv_elements.specs.declared.TheConstants.{EBML, DOC_TYPE, SEGMENT, TRACKS, TRACK_ENTRY, TRACK_NUMBER, TRACK_TYPE, CODEC_ID, CODEC_PRIVATE, VIDEO, PIXEL_WIDTH, PIXEL_HEIGHT, CLUSTER, TIMESTAMP, SIMPLE_BLOCK, BLOCK_GROUP}
 use Rattle.mkv_elements.specs.declared.table.Kind.{Kind}
 use Rattle.mkv_elements.specs.declared.table.Kind.TheVariants as kinds
@@ -22,17 +22,17 @@ use Rattle.mkv_read.proofs.TableKinds.{others_in_header, doc_type_in_header, oth
 
 -- ---- masters without blocks
 
-each_block-none : (blocks : Element → List Block) (w : Walk) → ((e : Element) → blocks e ≡ []) → each_block blocks w ≡ []
+each_block-none : (blocks : Element → List Block) (w : Listing) → ((e : Element) → blocks e ≡ []) → each_block blocks w ≡ []
 unfolding each_block
 each_block-none blocks ends h = refl
-each_block-none blocks (breaks fault) h = refl
+each_block-none blocks (breaks at) h = refl
 each_block-none blocks (gives e rest) h = ap (λ (bs : List Block). bs ++ each_block blocks rest) (h e) ∙ each_block-none blocks rest h
 
 -- what an element of this kind gives, where it is no block, and nothing is in it
 pub as_none : (bytes : List ℕ) (track : Option ℕ) (time : ℕ) (e : Element) (inside : List Block) (found kind : Option Kind) → found ≡ kind → blocks_as bytes track time e inside kind ≡ [] → blocks_as bytes track time e inside found ≡ []
 as_none bytes track time e inside found kind is none = ap (blocks_as bytes track time e inside) is ∙ none
 
-pub none_in_header : (levels : ℕ) (bytes : List ℕ) (track : Option ℕ) (time : ℕ) (w : Walk) → blocks_in levels bytes track EBML time w ≡ []
+pub none_in_header : (levels : ℕ) (bytes : List ℕ) (track : Option ℕ) (time : ℕ) (w : Listing) → blocks_in levels bytes track EBML time w ≡ []
 unfolding blocks_in
 none_in_header zero bytes track time w = refl
 none_in_header (suc levels) bytes track time w =
@@ -42,7 +42,7 @@ none_in_header (suc levels) bytes track time w =
     by_id e true is = as_none bytes track time e _ _ (Some kinds.Text) (ap (kind_in EBML) (eqb-true e.id DOC_TYPE is) ∙ doc_type_in_header) refl
     by_id e false other = as_none bytes track time e _ _ None (others_in_header e.id other) refl
 
-none_in_video : (levels : ℕ) (bytes : List ℕ) (track : Option ℕ) (time : ℕ) (w : Walk) → blocks_in levels bytes track VIDEO time w ≡ []
+none_in_video : (levels : ℕ) (bytes : List ℕ) (track : Option ℕ) (time : ℕ) (w : Listing) → blocks_in levels bytes track VIDEO time w ≡ []
 unfolding blocks_in
 none_in_video zero bytes track time w = refl
 none_in_video (suc levels) bytes track time w =
@@ -53,7 +53,7 @@ none_in_video (suc levels) bytes track time w =
     by_id e false true other is = as_none bytes track time e _ _ (Some kinds.Unsigned) (ap (kind_in VIDEO) (eqb-true e.id PIXEL_HEIGHT is) ∙ height_in_video) refl
     by_id e false false p q = as_none bytes track time e _ _ None (others_in_video e.id p q) refl
 
-none_in_entry : (levels : ℕ) (bytes : List ℕ) (track : Option ℕ) (time : ℕ) (w : Walk) → blocks_in levels bytes track TRACK_ENTRY time w ≡ []
+none_in_entry : (levels : ℕ) (bytes : List ℕ) (track : Option ℕ) (time : ℕ) (w : Listing) → blocks_in levels bytes track TRACK_ENTRY time w ≡ []
 unfolding blocks_in
 none_in_entry zero bytes track time w = refl
 none_in_entry (suc levels) bytes track time w =
@@ -71,7 +71,7 @@ none_in_entry (suc levels) bytes track time w =
         as_none bytes track time e _ _ (Some kinds.Master) (ap (kind_in TRACK_ENTRY) (eqb-true e.id VIDEO is) ∙ video_in_entry) (ap (λ (n : ℕ). blocks_in levels bytes track n (time_in bytes time e) (elements_in bytes e)) (eqb-true e.id VIDEO is) ∙ none_in_video levels bytes track (time_in bytes time e) (elements_in bytes e))
     by_id e false false false p q r = as_none bytes track time e _ _ _ (others_in_entry e.id p q r) (text_or_bytes e _ (eqb CODEC_ID e.id) (eqb CODEC_PRIVATE e.id))
 
-none_in_tracks : (levels : ℕ) (bytes : List ℕ) (track : Option ℕ) (time : ℕ) (w : Walk) → blocks_in levels bytes track TRACKS time w ≡ []
+none_in_tracks : (levels : ℕ) (bytes : List ℕ) (track : Option ℕ) (time : ℕ) (w : Listing) → blocks_in levels bytes track TRACKS time w ≡ []
 unfolding blocks_in
 none_in_tracks zero bytes track time w = refl
 none_in_tracks (suc levels) bytes track time w =
@@ -156,7 +156,7 @@ cluster_same levels bytes number time cluster blocks is h =
     let es = h.before ++ h.timestamp ∷ h.after in
     let all = Holds-elements bytes cluster.content cluster.end es h.held in
     let time_one : named TIMESTAMP es ≡ h.timestamp ∷ [] = named-split TIMESTAMP h.before h.timestamp h.after h.is_timestamp h.none_before ∙ ap (λ (xs : List Element). h.timestamp ∷ xs) h.none_after in
-    let timed : number_of bytes (first TIMESTAMP (elements_in bytes cluster)) ≡ h.time = ap (λ (w : Walk). number_of bytes (first TIMESTAMP w)) all ∙ ap (number_of bytes) (first-named TIMESTAMP es h.timestamp time_one) ∙ number_is bytes h.timestamp h.time h.time_is in
+    let timed : number_of bytes (first TIMESTAMP (elements_in bytes cluster)) ≡ h.time = ap (λ (w : Listing). number_of bytes (first TIMESTAMP w)) all ∙ ap (number_of bytes) (first-named TIMESTAMP es h.timestamp time_one) ∙ number_is bytes h.timestamp h.time h.time_is in
     let no_block : eqb h.timestamp.id SIMPLE_BLOCK ≡ false = ap (λ (n : ℕ). eqb n SIMPLE_BLOCK) h.is_timestamp in
     let no_group : eqb h.timestamp.id BLOCK_GROUP ≡ false = ap (λ (n : ℕ). eqb n BLOCK_GROUP) h.is_timestamp in
     let blocks_are : named SIMPLE_BLOCK es ≡ named SIMPLE_BLOCK h.after = named_behind SIMPLE_BLOCK h.before h.timestamp h.after h.no_early_block no_block in

@@ -1,13 +1,12 @@
 -- The clip that the whole reader finds in a plain file is the one that it holds.
-use Rattle.std.proofs.Common.{◌≡◌, ℕ, ◌+◌, ◌-◌, ◌≤◌, true, false, eqb, ltb, List, [], ◌∷◌, ◌++◌, length, map, drop, Option, Some, None, Result, Ok, Err, refl, sym, ap, subst, ◌∙◌, arith}
+use Rattle.std.proofs.Common.{◌≡◌, ℕ, ◌+◌, ◌-◌, ◌≤◌, true, false, eqb, ltb, List, [], ◌∷◌, ◌++◌, length, map, drop, Option, Some, None, Result, Ok, refl, sym, ap, subst, ◌∙◌, arith}
 use Rattle.std.specs.Prelude.{codes}
 use Rattle.std.specs.List.{flat_map}
 use Rattle.std.proofs.lemmas.Bool.{eq-eqb, ne_eqb, le-ltb, lt-ltb, le-leb}
 use Rattle.std.proofs.lemmas.List.{length-append, length-take, length-drop, append-nil}
 use Rattle.ebml_core.specs.declared.element.Element.{Element}
-use Rattle.ebml_core.specs.declared.element.EbmlFault.{EbmlFault}
 use Rattle.ebml_core.specs.Spelling.{Piece, Holds, spelling, element_of, elements_from}
-use Rattle.ebml_core.specs.Walking.{Walk, gives, onward, whole}
+use Rattle.ebml_core.specs.Listing.{whole}
 use Rattle.mkv_elements.specs.declared.TheConstants.{EBML, DOC_TYPE, SEGMENT, TRACKS, TRACK_ENTRY, TRACK_NUMBER, TRACK_TYPE, CODEC_ID, CODEC_PRIVATE, CONTENT_ENCODINGS, VIDEO, PIXEL_WIDTH, PIXEL_HEIGHT, CLUSTER}
 use Rattle.mkv_elements.specs.declared.table.Kind.TheVariants as kinds
 use Rattle.mkv_elements.specs.declared.table.TheConstants.{FILE}
@@ -18,7 +17,7 @@ use Rattle.mkv_read.specs.declared.block.Block.{Block}
 use Rattle.mkv_read.specs.declared.fault.ClipFault.{ClipFault}
 use Rattle.mkv_read.specs.Limits.{max_side, max_private, max_frames, video_type, depth}
 use Rattle.mkv_read.specs.Plain.{named, AreClusters, HasOne, IsNumber, IsSide, IsTrack, IsSegment, IsPlainFile}
-use Rattle.mkv_read.specs.Elements.{content_of, text_of, LiesWithin, next_at, elements, elements_in, first_where, first, number_of}
+use Rattle.mkv_read.specs.Elements.{content_of, text_of, LiesWithin, elements, elements_in, first_where, first, number_of}
 use Rattle.mkv_read.specs.Faults.{fault_in, element_fault}
 use Rattle.mkv_read.specs.Blocks.{each_block, blocks_in, element_blocks, time_in}
 use Rattle.mkv_read.specs.Tracks.{is_text, record_place, is_video, is_ffv1, side_of, track_within, track_with, track_in, track_of}
@@ -26,7 +25,6 @@ use Rattle.mkv_read.specs.Clip.{segment_of, end_or, file_of, fault_of, has_doc_t
 use Rattle.mkv_read.proofs.Held.{named-split, Holds-known}
 use Rattle.mkv_read.proofs.Held.{is-text}
 use Rattle.mkv_read.proofs.Held.{Holds-lie}
-use Rattle.mkv_read.proofs.Listing.{elements-step}
 use Rattle.mkv_read.proofs.PlainElements.{Holds-elements, first_where-named, first-named, first-lacks, first_fault-none}
 use Rattle.mkv_read.proofs.PlainFaults.{IsSound, named_behind, master_sound}
 use Rattle.mkv_read.proofs.PlainMasters.{header_sound, segment_sound}
@@ -146,13 +144,6 @@ unfolding file_of
 file_is bytes header segment f =
     ap (λ (o : Option Element). elements bytes 0 (end_or (length bytes) o)) (segment_is bytes header segment f) ∙ ap (elements bytes 0) (file_end bytes header segment f) ∙ Holds-elements bytes 0 (length bytes) _ f.held
 
-next_of : (r : Result (Option Element) EbmlFault) (go : Element → Walk) (e : Element) (w : Walk) → onward r go ≡ gives e w → r ≡ Ok (Some e)
-next_of (Ok None) go e w h = absurd cc
-next_of (Ok (Some d)) go e w h =
-    let same : d ≡ e = cc in
-    ap (λ (x : Element). Ok (Some x)) same
-next_of (Err fault) go e w h = absurd cc
-
 children_lie : (bytes : List ℕ) (header segment : Element) → IsFile bytes header segment → LiesWithin (length bytes) header × LiesWithin (length bytes) segment
 children_lie bytes header segment f =
     let lie = Holds-lie bytes 0 (length bytes) (file_elements header segment) (omega arith) f.held in
@@ -172,8 +163,7 @@ no_fault_of : (bytes : List ℕ) (clip : ClipIndex) → IsPlainFile bytes clip �
 unfolding fault_of
 no_fault_of bytes clip h =
     let f : IsFile bytes h.header h.segment = record { held = h.file; is_header = h.is_header; is_segment = h.is_segment } in
-    let next = next_of (next_at bytes 0 (length bytes)) _ h.header _ (sym (elements-step bytes 0 (length bytes)) ∙ Holds-elements bytes 0 (length bytes) _ h.file) in
-    rw (next, eq-eqb h.header.id EBML h.is_header, file_is bytes h.header h.segment f) (sound_file bytes clip h)
+    rw (Holds-elements bytes 0 (length bytes) _ h.file, eq-eqb h.header.id EBML h.is_header, file_is bytes h.header h.segment f) (sound_file bytes clip h)
 
 matroska_is : (bytes : List ℕ) (clip : ClipIndex) → IsPlainFile bytes clip → is_matroska bytes ≡ true
 unfolding is_matroska

@@ -1,47 +1,20 @@
 -- A master whose content is spelled by elements of known size has these elements, and what is looked up in them.
-use Rattle.std.proofs.Common.{◌≡◌, ℕ, ◌+◌, ◌-◌, ◌≤◌, Bool, true, false, cond, eqb, List, [], ◌∷◌, ◌++◌, length, take, drop, Option, Some, None, Result, Ok, refl, sym, ap, ◌∙◌, arith}
-use Rattle.std.specs.List.{flat_map, AllByRecursion}
-use Rattle.std.proofs.lemmas.List.{length-append, length-take, drop_at, drop-take, drop-drop}
+use Rattle.std.proofs.Common.{◌≡◌, ℕ, Bool, true, false, cond, eqb, List, [], ◌∷◌, Option, Some, None, refl, sym, ap, ◌∙◌, subst}
+use Rattle.std.specs.List.{AllByRecursion}
 use Rattle.ebml_core.specs.declared.element.Element.{Element}
-use Rattle.ebml_core.specs.declared.element.EbmlFault.{EbmlFault}
-use Rattle.ebml_core.specs.Spelling.{Piece, IsPiece, Holds, spelling, element_of, elements_from, between}
-use Rattle.ebml_core.specs.Reading.{element_at}
-use Rattle.ebml_core.specs.Walking.{gives, whole}
-use Rattle.ebml_core.proofs.Headers.{element_at-again}
+use Rattle.ebml_core.specs.Spelling.{Holds, elements_from}
+use Rattle.ebml_core.specs.Listing.{whole, Lists, EndsBeforeNext}
+use Rattle.ebml_core.proofs.Knowns.{lists-spelled}
 use Rattle.mkv_read.specs.Plain.{named, Lacks}
-use Rattle.mkv_read.specs.Elements.{ended, ended_in, next_at, elements, first_where, first}
+use Rattle.mkv_read.specs.Elements.{next_of, ListsFrom, elements, first_where, first}
 use Rattle.mkv_read.specs.Faults.{first_fault, else_place}
 use Rattle.mkv_read.proofs.Held.{AreKnown}
-use Rattle.mkv_read.proofs.Listing.{elements-gives, elements-ends}
-
-ended_known : (bytes : List ℕ) (e : Element) → e.unknown ≡ false → ended bytes e ≡ e
-unfolding ended
-ended_known bytes e known = rw known refl
-
-next_again : (bytes : List ℕ) (place end : ℕ) (p : Piece) (rest : List ℕ) → IsPiece p → between bytes place end ≡ spelling p ++ rest → next_at bytes place end ≡ Ok (Some (element_of place p))
-unfolding next_at
-next_again bytes place end p rest is spelled =
-    ap (λ (r : Result (Option Element) EbmlFault). ended_in bytes r) (ap (element_at place) spelled ∙ element_at-again place p rest is) ∙ ap (λ (e : Element). Ok (Some e)) (ended_known bytes (element_of place p) refl)
-
-next_none : (bytes : List ℕ) (place end : ℕ) → between bytes place end ≡ [] → next_at bytes place end ≡ Ok None
-unfolding next_at element_at
-next_none bytes place end empty = ap (λ (text : List ℕ). ended_in bytes (element_at place text)) empty
-
-pub behind_piece : (bytes : List ℕ) (place end n : ℕ) → n ≤ end - place → between bytes (place + n) end ≡ drop n (between bytes place end)
-behind_piece bytes place end n few =
-    let parts : end - place ≡ n + (end - (place + n)) = omega arith in
-    sym (ap (λ (m : ℕ). drop n (take m (drop place bytes))) parts ∙ drop-take n (end - (place + n)) (drop place bytes) ∙ ap (take (end - (place + n))) (drop-drop n place bytes ∙ ap (λ (m : ℕ). drop m bytes) (omega arith)))
-
-elements-pieces : (ps : List Piece) (bytes : List ℕ) (place end : ℕ) → AllByRecursion IsPiece ps → between bytes place end ≡ flat_map spelling ps → elements bytes place end ≡ whole (elements_from place ps)
-elements-pieces [] bytes place end each spelled = elements-ends bytes place end (next_none bytes place end spelled)
-elements-pieces (p ∷ ps) bytes place end each spelled =
-    let n = length (spelling p) in
-    let few : n ≤ end - place = omega (arith, ap length spelled, length-append (spelling p) (flat_map spelling ps), length-take (end - place) (drop place bytes)) in
-    let rest : between bytes (place + n) end ≡ flat_map spelling ps = behind_piece bytes place end n few ∙ ap (drop n) spelled ∙ drop_at (spelling p) (flat_map spelling ps) n refl in
-    elements-gives bytes place end (element_of place p) (next_again bytes place end p (flat_map spelling ps) each.0 spelled) ∙ ap (gives (element_of place p)) (elements-pieces ps bytes (place + n) end each.1 rest)
+use Rattle.mkv_read.proofs.Listing.{elements-only}
 
 pub Holds-elements : (bytes : List ℕ) (from to : ℕ) (es : List Element) → Holds bytes from to es → elements bytes from to ≡ whole es
-Holds-elements bytes from to es h = elements-pieces h.pieces bytes from to h.spelled.each h.spelled.whole ∙ ap whole (sym h.placed)
+Holds-elements bytes from to es h =
+    let all : ListsFrom bytes from to (whole (elements_from from h.pieces)) = subst (λ (text : List ℕ). Lists (EndsBeforeNext next_of) from text (whole (elements_from from h.pieces))) (sym h.spelled.whole) (lists-spelled (EndsBeforeNext next_of) from h.pieces h.spelled.each) in
+    sym (elements-only bytes from to (whole (elements_from from h.pieces)) all) ∙ ap whole (sym h.placed)
 
 -- ---- the first of them
 

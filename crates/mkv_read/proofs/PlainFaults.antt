@@ -7,7 +7,7 @@ use Rattle.std.proofs.lemmas.List.{length-take-le, length-drop, drop_at}
 use Rattle.ebml_core.specs.declared.element.Element.{Element}
 use Rattle.ebml_core.specs.declared.vint.Size.TheVariants.{Known}
 use Rattle.ebml_core.specs.Reading.{size_at}
-use Rattle.ebml_core.specs.Walking.{whole}
+use Rattle.ebml_core.specs.Listing.{whole}
 use Rattle.ebml_core.proofs.Headers.{size_at-again}
 use Rattle.mkv_elements.specs.declared.TheConstants.{CLUSTER, SIMPLE_BLOCK}
 use Rattle.mkv_elements.specs.declared.table.Kind.TheVariants as kinds

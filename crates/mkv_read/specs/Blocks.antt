@@ -1,7 +1,7 @@
 -- The blocks of a track, in file order (RFC 9559 sections 5.1.3 and 10).
 use Rattle.std.specs.Prelude.{ℕ, suc, zero, ◌+◌, ◌==◌, nat_lt, not, List, [], ◌∷◌, ◌++◌, Option, Some, None, if◌then◌else◌, bit_and}
 use Rattle.ebml_core.specs.declared.element.Element.{Element}
-use Rattle.ebml_core.specs.Walking.{Walk, ends, breaks, gives}
+use Rattle.ebml_core.specs.Listing.{Listing, ends, breaks, gives}
 use Rattle.mkv_elements.specs.declared.TheConstants.{CLUSTER, TIMESTAMP}
 use Rattle.mkv_elements.specs.declared.table.Kind.{Kind}
 use Rattle.mkv_elements.specs.declared.table.Kind.TheVariants as kinds
@@ -21,9 +21,9 @@ block_of (Some track) time e (Some head) =
     if head.track == track then record { at = e.start; time = time + head.time; laced = not (bit_and head.flags 6 == 0); packet = head.packet } ∷ [] else []
 
 -- the blocks of each of these elements, in order
-unfoldable pub each_block : (Element → List Block) → Walk → List Block
+unfoldable pub each_block : (Element → List Block) → Listing → List Block
 each_block blocks ends = []
-each_block blocks (breaks fault) = []
+each_block blocks (breaks at) = []
 each_block blocks (gives e rest) = blocks e ++ each_block blocks rest
 
 -- the time of the blocks in a master: in a Cluster it is the Cluster's Timestamp, else that of the blocks around it
@@ -37,7 +37,7 @@ blocks_as bytes track time e inside (Some kinds.Block) = block_of track time e (
 blocks_as bytes track time e inside other = []
 
 -- the blocks among elements in a parent, over so many levels of masters
-unfoldable pub blocks_in : ℕ → List ℕ → Option ℕ → ℕ → ℕ → Walk → List Block
+unfoldable pub blocks_in : ℕ → List ℕ → Option ℕ → ℕ → ℕ → Listing → List Block
 blocks_in zero bytes track parent time es = []
 blocks_in (suc levels) bytes track parent time es =
     each_block (λ e. blocks_as bytes track time e (blocks_in levels bytes track e.id (time_in bytes time e) (elements_in bytes e)) (kind_in parent e.id)) es

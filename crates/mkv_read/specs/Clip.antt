@@ -1,9 +1,8 @@
 -- The clip of a Matroska file (RFC 9559), or its first fault.
 use Rattle.std.specs.Prelude.{ℕ, ◌≤◌, ◌==◌, nat_lt, Bool, false, List, [], ◌∷◌, length, map, Option, Some, None, Result, Ok, Err, if◌then◌else◌, codes}
 use Rattle.ebml_core.specs.declared.element.Element.{Element}
-use Rattle.ebml_core.specs.declared.element.EbmlFault.{EbmlFault}
 use Rattle.ebml_core.specs.Reading.{◌>>=◌}
-use Rattle.ebml_core.specs.Walking.{Walk}
+use Rattle.ebml_core.specs.Listing.{Listing, ends, breaks, gives}
 use Rattle.mkv_elements.specs.declared.TheConstants.{EBML, DOC_TYPE, SEGMENT}
 use Rattle.mkv_elements.specs.declared.table.TheConstants.{FILE}
 use Rattle.mkv_read.specs.declared.clip.ClipIndex.{ClipIndex}
@@ -12,7 +11,7 @@ use Rattle.mkv_read.specs.declared.fault.ClipFault.TheVariants as faults
 use Rattle.mkv_read.specs.declared.fault.Which.TheVariants as limits
 use Rattle.mkv_read.specs.declared.track.Track.{Track}
 use Rattle.mkv_read.specs.declared.block.Block.{Block}
-use Rattle.mkv_read.specs.Elements.{next_at, elements, elements_in, first}
+use Rattle.mkv_read.specs.Elements.{elements, elements_in, first}
 use Rattle.mkv_read.specs.Faults.{fault_in}
 use Rattle.mkv_read.specs.Blocks.{blocks_in, fault_after}
 use Rattle.mkv_read.specs.Tracks.{is_text, track_of}
@@ -27,18 +26,19 @@ end_or end None = end
 end_or end (Some e) = e.end
 
 -- The elements of the file that are read: what follows the first Segment is passed over.
-unfoldable pub file_of : List ℕ → Walk
+unfoldable pub file_of : List ℕ → Listing
 file_of bytes = elements bytes 0 (end_or (length bytes) (segment_of bytes))
 
-abbrev pub is_element : ℕ → Result (Option Element) EbmlFault → Bool
-is_element id (Ok (Some e)) = e.id == id
-is_element id (Ok None) = false
-is_element id (Err fault) = false
+-- whether the first element has this id
+abbrev pub begins_with : ℕ → Listing → Bool
+begins_with id ends = false
+begins_with id (breaks at) = false
+begins_with id (gives e later) = e.id == id
 
 -- The place of the first faulty element. The file's first element is its EBML header.
 unfoldable pub fault_of : List ℕ → Option ℕ
 fault_of bytes =
-    if is_element EBML (next_at bytes 0 (length bytes)) then fault_in depth bytes FILE (file_of bytes) else Some 0
+    if begins_with EBML (elements bytes 0 (length bytes)) then fault_in depth bytes FILE (file_of bytes) else Some 0
 
 abbrev pub has_doc_type : List ℕ → Option Element → Bool
 has_doc_type bytes None = false

@@ -1,11 +1,10 @@
 -- The elements of a master, one after the other (RFC 8794 section 6, RFC 9559 section 5.1), and what is looked up in them.
-use Rattle.std.specs.Prelude.{ℕ, suc, zero, ◌-◌, ◌≤◌, ◌==◌, nat_lt, Bool, ◌&&◌, List, length, Option, Some, None, Result, Ok, Err, if◌then◌else◌}
+use Rattle.std.specs.Prelude.{ℕ, ◌≤◌, ◌==◌, nat_lt, Bool, List, [], length, Option, Some, None, if◌then◌else◌}
 use Rattle.std.specs.List.{before_first}
 use Rattle.ebml_core.specs.declared.element.Element.{Element}
-use Rattle.ebml_core.specs.declared.element.EbmlFault.{EbmlFault}
 use Rattle.ebml_core.specs.Spelling.{unsigned_of, between}
-use Rattle.ebml_core.specs.Reading.{element_at}
-use Rattle.ebml_core.specs.Walking.{Walk, ends, breaks, gives, onward, walk, end_before}
+use Rattle.ebml_core.specs.Listing.{Listing, ends, breaks, gives, Lists, EndsBeforeNext}
+use Rattle.ebml_core.proofs.Listings.{listed_next}
 use Rattle.mkv_elements.specs.declared.TheConstants.{CLUSTER, TOP_LEVEL}
 
 -- an element whose content lies before a place
@@ -17,41 +16,30 @@ pub record LiesWithin (end : ℕ) (e : Element) : Type 0 where
 abbrev pub content_of : List ℕ → Element → List ℕ
 content_of bytes e = between bytes e.content e.end
 
--- An element with its end put right: a Cluster of unknown size ends before the first element that stands beside Clusters, and where there is none, with its Segment.
-unfoldable pub ended : List ℕ → Element → Element
-ended bytes e =
-    if e.unknown && e.id == CLUSTER then record e { end = end_before TOP_LEVEL e.end (walk e.content (content_of bytes e)) } else e
+-- The elements from which on a Cluster of unknown size can't go on: those that stand beside Clusters. Any other of unknown size ends with its parent.
+abbrev pub next_of : ℕ → List ℕ
+next_of id = if id == CLUSTER then TOP_LEVEL else []
 
-abbrev pub ended_in : List ℕ → Result (Option Element) EbmlFault → Result (Option Element) EbmlFault
-ended_in bytes (Ok (Some e)) = Ok (Some (ended bytes e))
-ended_in bytes (Ok None) = Ok None
-ended_in bytes (Err fault) = Err fault
+-- What the bytes from one place up to another list.
+abbrev pub ListsFrom : List ℕ → ℕ → ℕ → Listing → Type 0
+ListsFrom bytes from to listing = Lists (EndsBeforeNext next_of) from (between bytes from to) listing
 
--- the element that starts at a place, where its parent ends at another; none at that end
-unfoldable pub next_at : List ℕ → ℕ → ℕ → Result (Option Element) EbmlFault
-next_at bytes place end = ended_in bytes (element_at place (between bytes place end))
-
--- at most so many elements
-unfoldable pub elements_upto : ℕ → List ℕ → ℕ → ℕ → Walk
-elements_upto zero bytes place end = ends
-elements_upto (suc most) bytes place end = onward (next_at bytes place end) (λ e. elements_upto most bytes e.end end)
-
--- the elements from one place up to another, of which there are fewer than bytes, up to the first whose header is faulty or that passes the end
-unfoldable pub elements : List ℕ → ℕ → ℕ → Walk
-elements bytes from to = elements_upto (suc (to - from)) bytes from to
+-- the one listing that they have
+unfoldable pub elements : List ℕ → ℕ → ℕ → Listing
+elements bytes from to = (listed_next next_of from (between bytes from to)).0
 
 -- the elements in a master
-abbrev pub elements_in : List ℕ → Element → Walk
+abbrev pub elements_in : List ℕ → Element → Listing
 elements_in bytes master = elements bytes master.content master.end
 
 -- the first that passes a test
-unfoldable pub first_where : (Element → Bool) → Walk → Option Element
+unfoldable pub first_where : (Element → Bool) → Listing → Option Element
 first_where test ends = None
-first_where test (breaks fault) = None
+first_where test (breaks at) = None
 first_where test (gives e rest) = if test e then Some e else first_where test rest
 
 -- Where elements of one id stand more than once in a master, the first counts.
-abbrev pub first : ℕ → Walk → Option Element
+abbrev pub first : ℕ → Listing → Option Element
 first id es = first_where (λ e. e.id == id) es
 
 -- An unsigned number (RFC 8794 section 7.2). A missing one is 0, and one of more than 8 bytes, which is faulty, counts as 0.

@@ -6,7 +6,7 @@ use Rattle.ebml_core.specs.declared.vint.Size.{Size}
 use Rattle.ebml_core.specs.declared.vint.Size.TheVariants.{Known, Unknown}
 use Rattle.ebml_core.specs.declared.vint.VintFault.{VintFault}
 use Rattle.ebml_core.specs.Reading.{size_at}
-use Rattle.ebml_core.specs.Walking.{Walk, ends, breaks, gives}
+use Rattle.ebml_core.specs.Listing.{Listing, ends, breaks, gives}
 use Rattle.mkv_elements.specs.declared.table.Kind.{Kind}
 use Rattle.mkv_elements.specs.declared.table.Kind.TheVariants as kinds
 use Rattle.mkv_elements.specs.declared.table.TheConstants.{MAY_BE_UNKNOWN}
@@ -53,9 +53,9 @@ else_place (Some at) later = Some at
 else_place None later = later
 
 -- the first of these elements that has a fault, or the first whose header is faulty or that passes the end
-unfoldable pub first_fault : (Element → Option ℕ) → Walk → Option ℕ
+unfoldable pub first_fault : (Element → Option ℕ) → Listing → Option ℕ
 first_fault fault ends = None
-first_fault fault (breaks header) = Some header.at
+first_fault fault (breaks at) = Some at
 first_fault fault (gives e rest) = else_place (fault e) (first_fault fault rest)
 
 -- the first fault in an element that is read as this: only masters have elements in them that are read
@@ -68,7 +68,7 @@ abbrev pub fault_as : List ℕ → Element → Option ℕ → Option Kind → Op
 fault_as bytes e inside kind = if is_faulty_as bytes e kind then Some e.start else inside_as inside kind
 
 -- the place of the first faulty one of elements in a parent, over so many levels of masters
-unfoldable pub fault_in : ℕ → List ℕ → ℕ → Walk → Option ℕ
+unfoldable pub fault_in : ℕ → List ℕ → ℕ → Listing → Option ℕ
 fault_in zero bytes parent es = None
 fault_in (suc levels) bytes parent es =
     first_fault (λ e. fault_as bytes e (fault_in levels bytes e.id (elements_in bytes e)) (kind_in parent e.id)) es

@@ -13,11 +13,11 @@ use Rattle.mkv_read.specs.declared.fault.ClipFault.TheVariants as faults
 use Rattle.mkv_read.specs.declared.block.Block.{Block}
 use Rattle.mkv_read.specs.declared.block.Blocks.{Blocks}
 use Rattle.mkv_read.specs.Plain.{LiesBefore}
-use Rattle.mkv_read.specs.Elements.{next_at}
+use Rattle.mkv_read.specs.Elements.{elements}
 use Rattle.mkv_read.specs.Faults.{fault_in}
 use Rattle.mkv_read.specs.Blocks.{blocks_in, block_fault}
 use Rattle.mkv_read.specs.Tracks.{track_of}
-use Rattle.mkv_read.specs.Clip.{segment_of, file_of, is_element, is_matroska, require}
+use Rattle.mkv_read.specs.Clip.{segment_of, file_of, begins_with, is_matroska, require}
 use Rattle.mkv_read.specs.Limits.{depth, max_frames}
 
 -- A call fails so where reading does, and where memory runs out.
@@ -89,7 +89,7 @@ number_in (Err fault) = None
 -- what reading a file once over gives
 unfoldable pub read : List ℕ → Result ClipIndex ClipFault
 read bytes =
-    if is_element EBML (next_at bytes 0 (length bytes)) then (do
+    if begins_with EBML (elements bytes 0 (length bytes)) then (do
       taken ← outcome (fault_in depth bytes FILE (file_of bytes)) (blocks_in depth bytes (number_in (track_of bytes (segment_of bytes))) FILE 0 (file_of bytes)) nothing_taken
       matroska ← require (is_matroska bytes) faults.DocType
       track ← track_of bytes (segment_of bytes)

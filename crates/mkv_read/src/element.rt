@@ -1,7 +1,8 @@
-ghost use Rattle.std.specs.Prelude.{◌≡◌, ◌<◌, ◌≤◌, ◌==◌, length, IfOk, IfSome};
+ghost use Rattle.std.specs.Prelude.{◌≡◌, ◌<◌, ◌≤◌, ◌==◌, length, true, IfOk, IfSome};
 ghost use Rattle.std.specs.List.{position_or_len};
-ghost use Rattle.ebml_core.specs.Walking.{LiesAt};
-ghost use Rattle.mkv_read.specs.Elements.{content_of, LiesWithin, ended, next_at, elements, first, number_of};
+ghost use Rattle.ebml_core.specs.Listing.{Listing, Lists, EndsWithParent, end_before};
+ghost use Rattle.ebml_core.specs.Walking.{LiesAt, place_after, given};
+ghost use Rattle.mkv_read.specs.Elements.{content_of, LiesWithin, elements, first, number_of};
 ghost use Rattle.mkv_read.specs.Tracks.{is_text};
 
 use ebml_core::{EbmlFault, Element, Walker, unsigned};
@@ -9,10 +10,12 @@ use mkv_elements::{CLUSTER, TOP_LEVEL};
 
 /// The element with its end: a Cluster of unknown size ends before the first element that stands beside
 /// Clusters, and where there is none, with its Segment (RFC 8794 section 6.2).
-#[tactic(auto, unfolding(crate::specs::Elements::ended))]
 fn ended(bytes: &[u8], element: Element) -> Element
     requires { LiesWithin (length bytes.now) element }
-    ensures exact { result ≡ ended bytes.now element }
+    ensures cluster { element.unknown ≡ true → element.id ≡ CLUSTER
+        → (behind : Listing) × Lists EndsWithParent element.content (content_of bytes.now element) behind
+        × (result ≡ record element { end = end_before TOP_LEVEL element.end behind }) }
+    ensures other { (element.unknown ≡ true → element.id ≡ CLUSTER → ⊥) → result ≡ element }
     ensures start { (result.start ≡ element.start) × (result.content ≡ element.content) }
     ensures lies { (result.content ≤ result.end) × (result.end ≤ element.end) }
 {
@@ -24,12 +27,12 @@ fn ended(bytes: &[u8], element: Element) -> Element
     element
 }
 
-/// The element that starts at a place, where its parent ends at another; none at that end.
-#[tactic(auto, unfolding(crate::specs::Elements::next_at))]
+/// The element that starts at a place, where its parent ends at another; none at that end. What stands from the place on
+/// is this answer, and then what stands from the element's end on.
 pub fn element_at(bytes: &[u8], place: u64, end: u64) -> Result<Option<Element>, EbmlFault>
     requires order { place ≤ end }
     requires within { end ≤ length bytes.now }
-    ensures exact { result ≡ next_at bytes.now place end }
+    ensures exact { elements bytes.now place end ≡ given result (elements bytes.now (place_after place result) end) }
     ensures lies { IfOk result (λ found. IfSome found (LiesAt place end)) }
 {
     let mut walker = Walker::over(bytes, place, end);

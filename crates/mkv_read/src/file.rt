@@ -2,9 +2,9 @@ ghost use Rattle.std.specs.Prelude.{◌≡◌, ◌≤◌, length, IfOk, IfSome};
 ghost use Rattle.std.specs.List.{AllByRecursion};
 ghost use Rattle.mkv_elements.specs.declared.TheConstants.{EBML};
 ghost use Rattle.mkv_read.specs.Plain.{LiesBefore};
-ghost use Rattle.mkv_read.specs.Elements.{next_at};
+ghost use Rattle.mkv_read.specs.Elements.{elements};
 ghost use Rattle.mkv_read.specs.Taking.{Gives, taken_of, finished, number_in, read};
-ghost use Rattle.mkv_read.specs.Clip.{is_element, is_matroska, end_or, IsWithinLimits, clip_of};
+ghost use Rattle.mkv_read.specs.Clip.{begins_with, is_matroska, end_or, IsWithinLimits, clip_of};
 
 use crate::block::Blocks;
 use crate::clip::{ClipIndex, MAX_FRAMES, Places};
@@ -18,7 +18,7 @@ use std::alloc::Global;
 
 /// Whether the file's first element is an EBML header.
 fn begins_with_header(bytes: &[u8]) -> bool
-    ensures { result ≡ is_element EBML (next_at bytes.now 0 (length bytes.now)) }
+    ensures { result ≡ begins_with EBML (elements bytes.now 0 (length bytes.now)) }
 {
     match element_at(bytes, 0, bytes.len() as u64) {
         Ok(Some(element)) => element.id == EBML,

@@ -5,7 +5,7 @@ use Rattle.std.proofs.lemmas.List.{append-nil, take_all}
 use Rattle.std.specs.List.{flat_map, AllByRecursion}
 use Rattle.ebml_core.specs.declared.element.Element.{Element}
 use Rattle.ebml_core.specs.Spelling.{Piece, IsPiece, spelling, element_of, elements_from}
-use Rattle.ebml_core.specs.Walking.{Walk, gives, ends, whole}
+use Rattle.ebml_core.specs.Listing.{Listing, gives, ends, whole}
 use Rattle.mkv_elements.specs.declared.TheConstants.{EBML, SEGMENT, TRACKS, TRACK_ENTRY, CUES}
 use Rattle.mkv_elements.specs.declared.table.Kind.TheVariants as kinds
 use Rattle.mkv_elements.specs.declared.table.TheConstants.{FILE}
@@ -19,7 +19,7 @@ use Rattle.mkv_read.specs.Elements.{elements_in, first_where, first}
 use Rattle.mkv_read.specs.Faults.{fault_in}
 use Rattle.mkv_read.specs.Blocks.{blocks_in, block_fault, fault_after}
 use Rattle.mkv_read.specs.Tracks.{track_in, track_of}
-use Rattle.mkv_read.specs.Clip.{segment_of, file_of, is_element, fault_of, has_doc_type, is_matroska, clip_with, clip_of}
+use Rattle.mkv_read.specs.Clip.{segment_of, file_of, begins_with, fault_of, has_doc_type, is_matroska, clip_with, clip_of}
 use Rattle.mkv_write.proofs.Standing.{Stands, Stands-front, Stands-back, Stands-between, elements-spelled}
 use Rattle.mkv_write.proofs.Gathering.{Reads, ReadsOne, Reads-ends, Reads-gives, Reads-append, ReadsOne-master}
 use Rattle.mkv_write.proofs.Finding.{finds, ReadsOne-leaf, Reads-leaves, elements_from-append, flat_map-append, AllPieces-append}
@@ -28,7 +28,7 @@ use Rattle.mkv_write.specs.Writing as writing
 use Rattle.mkv_write.specs.Law.{IsWritable, bytes_at, IsReadBack}
 use Rattle.mkv_write.proofs.Frames.{AreFrames, AreShort, cluster_pieces, spelling-clusters, ArePieces-clusters, frames-clusters}
 use Rattle.mkv_write.proofs.Parts.{header_piece, spelling-header, header_read, has_doc_type-written, info_piece, spelling-info, IsPiece-info, leaf-info, cues_piece, IsPiece-cues, leaf-cues}
-use Rattle.mkv_write.proofs.Segment.{length-segment_head, IsFile, segment_start, header_of, segment_in, stands-file, stands-body, next_at-header, elements-file, segment_of-file, file_of-file}
+use Rattle.mkv_write.proofs.Segment.{length-segment_head, IsFile, segment_start, header_of, segment_in, stands-file, stands-body, elements-file, segment_of-file, file_of-file}
 use Rattle.mkv_write.proofs.Spelled.{spelling-written}
 use Rattle.mkv_write.proofs.Tracks.{tracks_piece, spelling-tracks, IsPiece-tracks, tracks_read, place_at, track_read}
 use Rattle.mkv_write.proofs.Times.{frame_time-le}
@@ -134,7 +134,7 @@ inside-segment bytes pieces each f =
 reads_file : (bytes : List ℕ) (pieces : List Piece) (found : List Block) → AllByRecursion IsPiece pieces → IsFile bytes (body_of pieces) → Reads 4 bytes SEGMENT 0 (whole (elements_from (segment_start + 12) pieces)) found → Reads 5 bytes FILE 0 (gives header_of (gives (segment_in (body_of pieces)) ends)) found
 reads_file bytes pieces found each f reads =
     let e = segment_in (body_of pieces) in
-    let inside : Reads 4 bytes SEGMENT 0 (elements_in bytes e) found = subst (λ (w : Walk). Reads 4 bytes SEGMENT 0 w found) (sym (inside-segment bytes pieces each f)) reads in
+    let inside : Reads 4 bytes SEGMENT 0 (elements_in bytes e) found = subst (λ (w : Listing). Reads 4 bytes SEGMENT 0 w found) (sym (inside-segment bytes pieces each f)) reads in
     let one : ReadsOne 4 bytes FILE 0 e found = ReadsOne-master 4 bytes FILE 0 e found refl kind-segment inside in
     let last = Reads-gives 4 bytes FILE 0 e ends found [] one (Reads-ends 4 bytes FILE 0) in
     let plain = subst (λ (bs : List Block). Reads 5 bytes FILE 0 (gives e ends) bs) (append-nil found) last in
@@ -146,7 +146,7 @@ guarded test fault other is none_is = rw is none_is
 fault_of-file : (bytes : List ℕ) (pieces : List Piece) (found : List Block) → IsFile bytes (body_of pieces) → Reads 5 bytes FILE 0 (gives header_of (gives (segment_in (body_of pieces)) ends)) found → fault_of bytes ≡ None
 unfolding fault_of
 fault_of-file bytes pieces found f reads =
-    guarded _ _ _ (ap (is_element EBML) (next_at-header bytes (body_of pieces) f)) (ap (fault_in 5 bytes FILE) (file_of-file bytes (body_of pieces) f) ∙ reads.sound)
+    guarded _ _ _ (ap (begins_with EBML) (elements-file bytes (body_of pieces) f)) (ap (fault_in 5 bytes FILE) (file_of-file bytes (body_of pieces) f) ∙ reads.sound)
 
 blocks-file : (bytes : List ℕ) (pieces : List Piece) (found : List Block) → IsFile bytes (body_of pieces) → Reads 5 bytes FILE 0 (gives header_of (gives (segment_in (body_of pieces)) ends)) found → blocks_in 5 bytes (Some 1) FILE 0 (file_of bytes) ≡ found
 blocks-file bytes pieces found f reads = ap (blocks_in 5 bytes (Some 1) FILE 0) (file_of-file bytes (body_of pieces) f) ∙ reads.blocks_are
@@ -154,7 +154,7 @@ blocks-file bytes pieces found f reads = ap (blocks_in 5 bytes (Some 1) FILE 0) 
 is_matroska-file : (bytes : List ℕ) (pieces : List Piece) → IsFile bytes (body_of pieces) → is_matroska bytes ≡ true
 unfolding is_matroska first_where
 is_matroska-file bytes pieces f =
-    ap (λ (w : Walk). has_doc_type bytes (first EBML w)) (elements-file bytes (body_of pieces) f)
+    ap (λ (w : Listing). has_doc_type bytes (first EBML w)) (elements-file bytes (body_of pieces) f)
     ∙ has_doc_type-written bytes 0 (Stands-front bytes 0 (spelling header_piece) (segment_head ++ body_of pieces) (stands-file bytes (body_of pieces) f))
 
 -- ---- the packets
@@ -217,7 +217,7 @@ read_back bytes w lead_length count limits counts all f =
     let track_is : track_of bytes (segment_of bytes) ≡ Ok (record { number = 1; width = w.width; height = w.height; private = private_at }) =
     ap (track_of bytes) (segment_of-file bytes (body_of pieces) f)
     ∙ track_of-segment bytes (segment_in (body_of pieces))
-    ∙ ap (λ (walk : Walk). track_in bytes (first TRACKS walk)) (inside-segment bytes pieces each f)
+    ∙ ap (λ (walk : Listing). track_in bytes (first TRACKS walk)) (inside-segment bytes pieces each f)
     ∙ ap (track_in bytes) tracks.found
     ∙ t.is in
     let made = clip_with-frames (record { number = 1; width = w.width; height = w.height; private = private_at }) bytes w.rate w.packets segment.found limits.some_rate limits.some_packets limits.most_packets segment.are in

@@ -5,7 +5,7 @@ use Rattle.std.specs.Str.{bytes_eq}
 use Rattle.std.proofs.lemmas.Bool.{le-ltb}
 use Rattle.ebml_core.specs.declared.element.Element.{Element}
 use Rattle.ebml_core.specs.Spelling.{unsigned_of, Piece, spelling, element_of, elements_from}
-use Rattle.ebml_core.specs.Walking.{Walk, whole}
+use Rattle.ebml_core.specs.Listing.{Listing, whole}
 use Rattle.mkv_elements.specs.declared.table.Kind.{Kind}
 use Rattle.mkv_elements.specs.declared.table.Kind.TheVariants as kinds
 use Rattle.mkv_elements.specs.Table.{kind_in}
@@ -22,7 +22,7 @@ abbrev pub piece_named : ℕ → List Piece → Option Piece
 piece_named id [] = None
 piece_named id (p ∷ ps) = cond (eqb p.id id) (Some p) (piece_named id ps)
 
-pub record Finds (bytes : List ℕ) (es : Walk) (id : ℕ) (p : Piece) : Type 0 where
+pub record Finds (bytes : List ℕ) (es : Listing) (id : ℕ) (p : Piece) : Type 0 where
   pub place : ℕ
   pub found : first id es ≡ Some (element_of place p)
   pub stands : Stands bytes place (spelling p)

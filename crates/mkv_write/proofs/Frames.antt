@@ -7,7 +7,7 @@ use Rattle.std.specs.List.{flat_map, AllByRecursion}
 use Rattle.ebml_core.specs.declared.vint.Size.TheVariants.{Known}
 use Rattle.ebml_core.specs.declared.element.Element.{Element}
 use Rattle.ebml_core.specs.Spelling.{IsSize, Piece, IsPiece, spelling, element_of, elements_from}
-use Rattle.ebml_core.specs.Walking.{Walk, whole}
+use Rattle.ebml_core.specs.Listing.{Listing, whole}
 use Rattle.ebml_core.proofs.Headers.{size_at-again}
 use Rattle.mkv_elements.specs.declared.TheConstants.{SEGMENT, CLUSTER, TIMESTAMP, SIMPLE_BLOCK}
 use Rattle.mkv_elements.specs.declared.table.Kind.TheVariants as kinds
@@ -75,7 +75,7 @@ AreFrames bytes rate frame [] bs = bs ≡ []
 AreFrames bytes rate frame (packet ∷ packets) [] = ⊥
 AreFrames bytes rate frame (packet ∷ packets) (b ∷ bs) = IsFrame bytes rate frame packet b × AreFrames bytes rate (frame + 1) packets bs
 
-pub record Frames (levels : ℕ) (bytes : List ℕ) (parent time : ℕ) (es : Walk) (rate frame : ℕ) (packets : List (List ℕ)) : Type 0 where
+pub record Frames (levels : ℕ) (bytes : List ℕ) (parent time : ℕ) (es : Listing) (rate frame : ℕ) (packets : List (List ℕ)) : Type 0 where
   pub found : List Block
   pub reads : Reads levels bytes parent time es found
   pub are : AreFrames bytes rate frame packets found
@@ -198,7 +198,7 @@ time_in-cluster bytes start rate early packets short fits h =
     let inside = elements_in-spelled bytes start p children (ArePieces-cluster rate early packets short) (content-cluster rate early packets) h in
     let there = subst (λ (text : List ℕ). Stands bytes place text) (content-cluster rate early packets) (Stands-content bytes start p h) in
     let f = finds bytes place children TIMESTAMP stamp there refl in
-    ap (λ (w : Walk). number_of bytes (first TIMESTAMP w)) inside
+    ap (λ (w : Listing). number_of bytes (first TIMESTAMP w)) inside
     ∙ ap (number_of bytes) f.found
     ∙ number_of-spelled bytes f.place stamp f.stands (omega (arith, length-bytes_high_first 8 (frame_time rate early)))
     ∙ unsigned_of-high_first 8 (frame_time rate early) fits
@@ -222,7 +222,7 @@ frames-cluster levels bytes start rate early packets above few short fits h =
     let frames = frames-blocks levels bytes later rate early early packets above (omega arith) (omega arith) (Stands-back bytes place (spelling stamp) (flat_map spelling (block_pieces rate time early packets)) there) in
     let all = Reads-gives levels bytes CLUSTER time (element_of place stamp) (whole (elements_from later (block_pieces rate time early packets))) [] frames.found (ReadsOne-leaf levels bytes CLUSTER time place stamp (leaf-timestamp time)) frames.reads in
     let timed : Reads (suc levels) bytes CLUSTER (time_in bytes 0 e) (whole (elements_from place (cluster_children rate early packets))) frames.found = subst (λ (t : ℕ). Reads (suc levels) bytes CLUSTER t (whole (elements_from place (cluster_children rate early packets))) frames.found) (sym (time_in-cluster bytes start rate early packets short fits h)) all in
-    let in_place : Reads (suc levels) bytes CLUSTER (time_in bytes 0 e) (elements_in bytes e) frames.found = subst (λ (w : Walk). Reads (suc levels) bytes CLUSTER (time_in bytes 0 e) w frames.found) (sym inside) timed in
+    let in_place : Reads (suc levels) bytes CLUSTER (time_in bytes 0 e) (elements_in bytes e) frames.found = subst (λ (w : Listing). Reads (suc levels) bytes CLUSTER (time_in bytes 0 e) w frames.found) (sym inside) timed in
     record {
       found = frames.found;
       reads = ReadsOne-master (suc levels) bytes SEGMENT 0 e frames.found refl kind-cluster in_place;

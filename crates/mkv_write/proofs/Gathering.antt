@@ -3,7 +3,7 @@ use Rattle.std.proofs.Common.{◌≡◌, ℕ, suc, false, not, ◌&&◌, ◌+◌
 use Rattle.std.proofs.lemmas.Bool.{le-ltb}
 use Rattle.std.specs.Prelude.{bit_and, ◌==◌}
 use Rattle.ebml_core.specs.declared.element.Element.{Element}
-use Rattle.ebml_core.specs.Walking.{Walk, ends, gives, whole}
+use Rattle.ebml_core.specs.Listing.{Listing, ends, gives, whole}
 use Rattle.mkv_elements.specs.declared.table.Kind.TheVariants as kinds
 use Rattle.mkv_elements.specs.Table.{kind_in}
 use Rattle.mkv_read.specs.declared.block.Head.{Head}
@@ -14,7 +14,7 @@ use Rattle.mkv_read.specs.Faults.{head_at, may_be_unknown, first_fault, fault_in
 use Rattle.mkv_read.specs.Blocks.{each_block, blocks_in, element_blocks, time_in}
 
 -- elements without a fault, and their blocks
-pub record Reads (levels : ℕ) (bytes : List ℕ) (parent time : ℕ) (es : Walk) (blocks : List Block) : Type 0 where
+pub record Reads (levels : ℕ) (bytes : List ℕ) (parent time : ℕ) (es : Listing) (blocks : List Block) : Type 0 where
   pub sound : fault_in levels bytes parent es ≡ None
   pub blocks_are : blocks_in levels bytes (Some 1) parent time es ≡ blocks
 
@@ -27,7 +27,7 @@ pub Reads-ends : (levels : ℕ) (bytes : List ℕ) (parent time : ℕ) → Reads
 unfolding fault_in blocks_in first_fault each_block
 Reads-ends levels bytes parent time = record { sound = refl; blocks_are = refl }
 
-pub Reads-gives : (levels : ℕ) (bytes : List ℕ) (parent time : ℕ) (e : Element) (rest : Walk) (bs cs : List Block) → ReadsOne levels bytes parent time e bs → Reads (suc levels) bytes parent time rest cs → Reads (suc levels) bytes parent time (gives e rest) (bs ++ cs)
+pub Reads-gives : (levels : ℕ) (bytes : List ℕ) (parent time : ℕ) (e : Element) (rest : Listing) (bs cs : List Block) → ReadsOne levels bytes parent time e bs → Reads (suc levels) bytes parent time rest cs → Reads (suc levels) bytes parent time (gives e rest) (bs ++ cs)
 unfolding fault_in blocks_in first_fault each_block
 Reads-gives levels bytes parent time e rest bs cs one others = record {
   sound = ap (λ (x : Option ℕ). else_place x (fault_in (suc levels) bytes parent rest)) one.sound ∙ others.sound;

@@ -3,7 +3,7 @@ use Rattle.std.proofs.Common.{◌≡◌, ℕ, zero, suc, true, ◌*◌, ◌^◌,
 use Rattle.std.specs.Int.{bytes_high_first}
 use Rattle.std.specs.List.{flat_map, AllByRecursion}
 use Rattle.ebml_core.specs.Spelling.{Piece, IsPiece, spelling, element_of, elements_from}
-use Rattle.ebml_core.specs.Walking.{Walk, whole}
+use Rattle.ebml_core.specs.Listing.{Listing, whole}
 use Rattle.mkv_elements.specs.declared.TheConstants.{EBML, EBML_VERSION, EBML_READ_VERSION, EBML_MAX_ID_LENGTH, EBML_MAX_SIZE_LENGTH, DOC_TYPE, DOC_TYPE_VERSION, DOC_TYPE_READ_VERSION, SEGMENT, INFO, TIMESTAMP_SCALE, MUXING_APP, WRITING_APP, CUES}
 use Rattle.mkv_elements.specs.declared.table.Kind.TheVariants as kinds
 use Rattle.mkv_elements.specs.declared.table.TheConstants.{FILE}
@@ -85,12 +85,12 @@ inside-header bytes start h = elements_in-spelled bytes start header_piece heade
 pub header_read : (levels : ℕ) (bytes : List ℕ) (start : ℕ) → Stands bytes start (spelling header_piece) → ReadsOne (suc levels) bytes FILE 0 (element_of start header_piece) []
 header_read levels bytes start h =
     let leaves = Reads-leaves levels bytes EBML 0 (content_place start header_piece) header_pieces leaves-header in
-    ReadsOne-master (suc levels) bytes FILE 0 (element_of start header_piece) [] refl kind-header (subst (λ (w : Walk). Reads (suc levels) bytes EBML 0 w []) (sym (inside-header bytes start h)) leaves)
+    ReadsOne-master (suc levels) bytes FILE 0 (element_of start header_piece) [] refl kind-header (subst (λ (w : Listing). Reads (suc levels) bytes EBML 0 w []) (sym (inside-header bytes start h)) leaves)
 
 pub has_doc_type-written : (bytes : List ℕ) (start : ℕ) → Stands bytes start (spelling header_piece) → has_doc_type bytes (Some (element_of start header_piece)) ≡ true
 has_doc_type-written bytes start h =
     let f = finds bytes (content_place start header_piece) header_pieces DOC_TYPE (written 2 DOC_TYPE 1 (codes "matroska")) (Stands-content bytes start header_piece h) refl in
-    ap (λ (w : Walk). is_text bytes (codes "matroska") (first DOC_TYPE w)) (inside-header bytes start h)
+    ap (λ (w : Listing). is_text bytes (codes "matroska") (first DOC_TYPE w)) (inside-header bytes start h)
     ∙ ap (is_text bytes (codes "matroska")) f.found
     ∙ is_text-spelled bytes (codes "matroska") f.place (written 2 DOC_TYPE 1 (codes "matroska")) f.stands
 

@@ -1,16 +1,12 @@
 -- A text that stands at a place, and the elements that it spells there.
-use Rattle.std.proofs.Common.{◌≡◌, ℕ, zero, suc, ◌+◌, ◌-◌, ◌<◌, ◌≤◌, List, [], ◌∷◌, ◌++◌, length, take, drop, Option, Some, None, Result, Ok, refl, sym, ap, subst, ◌∙◌, append_assoc, arith}
+use Rattle.std.proofs.Common.{◌≡◌, ℕ, ◌+◌, ◌-◌, ◌≤◌, List, [], ◌++◌, length, take, drop, refl, sym, ap, subst, ◌∙◌, append_assoc, arith}
 use Rattle.std.specs.List.{flat_map, AllByRecursion}
 use Rattle.std.proofs.lemmas.List.{append-nil, length-append, take_at, drop_at}
-use Rattle.ebml_core.specs.declared.element.Element.{Element}
-use Rattle.ebml_core.specs.declared.element.EbmlFault.{EbmlFault}
 use Rattle.ebml_core.specs.Spelling.{Piece, IsPiece, spelling, element_of, elements_from, between}
-use Rattle.ebml_core.specs.Reading.{element_at}
-use Rattle.ebml_core.specs.Walking.{ends, gives, onward, whole}
-use Rattle.ebml_core.proofs.Pieces.{spelling-some}
-use Rattle.ebml_core.proofs.Headers.{element_at-again}
-use Rattle.mkv_read.specs.Elements.{content_of}
-use Rattle.mkv_read.specs.Elements.{ended, ended_in, next_at, elements_upto, elements, elements_in}
+use Rattle.ebml_core.specs.Listing.{Listing, Lists, EndsBeforeNext, whole}
+use Rattle.ebml_core.proofs.Knowns.{lists-spelled}
+use Rattle.mkv_read.specs.Elements.{content_of, next_of, elements, elements_in}
+use Rattle.mkv_read.proofs.Listing.{elements-only}
 
 -- ---- texts at places
 
@@ -64,38 +60,13 @@ pub content_of-spelled : (bytes : List ℕ) (start : ℕ) (p : Piece) → Stands
 content_of-spelled bytes start p h =
     Stands-between bytes (content_place start p) (start + length (spelling p)) p.content (Stands-content bytes start p h) (content_end start p)
 
--- The element that comes next is the one that is spelled there.
-pub next_at-spelled : (bytes : List ℕ) (start to : ℕ) (p : Piece) (more : List ℕ) → IsPiece p → Stands bytes start (spelling p ++ more) → to ≡ start + length (spelling p ++ more) → next_at bytes start to ≡ Ok (Some (element_of start p))
-unfolding next_at ended
-next_at-spelled bytes start to p more is h end =
-    ap (λ (text : List ℕ). ended_in bytes (element_at start text)) (Stands-between bytes start to (spelling p ++ more) h end) ∙ ap (ended_in bytes) (element_at-again start p more is)
-
-pub next_at-end : (bytes : List ℕ) (place to : ℕ) → to ≡ place → next_at bytes place to ≡ Ok None
-unfolding next_at ended element_at
-next_at-end bytes place to end =
-    let none_left : to - place ≡ 0 = omega arith in
-    ap (λ (n : ℕ). ended_in bytes (element_at place (take n (drop place bytes)))) none_left
-
-pub elements_upto-end : (most : ℕ) (bytes : List ℕ) (place to : ℕ) → to ≡ place → elements_upto most bytes place to ≡ ends
-unfolding elements_upto
-elements_upto-end zero bytes place to end = refl
-elements_upto-end (suc most) bytes place to end = ap (λ (r : Result (Option Element) EbmlFault). onward r (λ e. elements_upto most bytes e.end to)) (next_at-end bytes place to end)
-
-pub elements_upto-spelled : (most : ℕ) (bytes : List ℕ) (from to : ℕ) (ps : List Piece) → AllByRecursion IsPiece ps → Stands bytes from (flat_map spelling ps) → to ≡ from + length (flat_map spelling ps) → to - from < most → elements_upto most bytes from to ≡ whole (elements_from from ps)
-unfolding elements_upto
-elements_upto-spelled zero bytes from to ps each h end enough = absurd (omega arith)
-elements_upto-spelled (suc most) bytes from to [] each h end enough = elements_upto-end (suc most) bytes from to (omega arith)
-elements_upto-spelled (suc most) bytes from to (p ∷ ps) each h end enough =
-    let len = length-append (spelling p) (flat_map spelling ps) in
-    let some = spelling-some p each.0 in
-    let octets = length-append p.id_octets (p.size_octets ++ p.content) in
-    let first = next_at-spelled bytes from to p (flat_map spelling ps) each.0 h end in
-    let rest = elements_upto-spelled most bytes (from + length (spelling p)) to ps each.1 (Stands-back bytes from (spelling p) (flat_map spelling ps) h) (omega (arith, len, end)) (omega (arith, len, some, octets, end, enough)) in
-    ap (λ (r : Result (Option Element) EbmlFault). onward r (λ e. elements_upto most bytes e.end to)) first ∙ ap (gives (element_of from p)) rest
+-- What the text lists that stands between two places is what stands there.
+pub elements-stand : (bytes : List ℕ) (from to : ℕ) (text : List ℕ) (listing : Listing) → Stands bytes from text → to ≡ from + length text → Lists (EndsBeforeNext next_of) from text listing → elements bytes from to ≡ listing
+elements-stand bytes from to text listing h end listed =
+    sym (elements-only bytes from to listing (subst (λ (x : List ℕ). Lists (EndsBeforeNext next_of) from x listing) (sym (Stands-between bytes from to text h end)) listed))
 
 pub elements-spelled : (bytes : List ℕ) (from to : ℕ) (ps : List Piece) → AllByRecursion IsPiece ps → Stands bytes from (flat_map spelling ps) → to ≡ from + length (flat_map spelling ps) → elements bytes from to ≡ whole (elements_from from ps)
-unfolding elements
-elements-spelled bytes from to ps each h end = elements_upto-spelled (suc (to - from)) bytes from to ps each h end (omega arith)
+elements-spelled bytes from to ps each h end = elements-stand bytes from to (flat_map spelling ps) (whole (elements_from from ps)) h end (lists-spelled (EndsBeforeNext next_of) from ps each)
 
 pub elements_in-spelled : (bytes : List ℕ) (start : ℕ) (p : Piece) (ps : List Piece) → AllByRecursion IsPiece ps → p.content ≡ flat_map spelling ps → Stands bytes start (spelling p) → elements_in bytes (element_of start p) ≡ whole (elements_from (content_place start p) ps)
 elements_in-spelled bytes start p ps each is h =

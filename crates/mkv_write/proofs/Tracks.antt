@@ -7,7 +7,7 @@ use Rattle.std.specs.Int.{bytes_high_first}
 use Rattle.std.specs.List.{flat_map, AllByRecursion}
 use Rattle.ebml_core.specs.declared.element.Element.{Element}
 use Rattle.ebml_core.specs.Spelling.{Piece, IsPiece, spelling, element_of, elements_from}
-use Rattle.ebml_core.specs.Walking.{Walk, gives, ends, whole}
+use Rattle.ebml_core.specs.Listing.{Listing, gives, ends, whole}
 use Rattle.mkv_elements.specs.declared.TheConstants.{SEGMENT, TRACKS, TRACK_ENTRY, TRACK_NUMBER, TRACK_UID, TRACK_TYPE, FLAG_LACING, CODEC_ID, CODEC_PRIVATE, CONTENT_ENCODINGS, VIDEO, PIXEL_WIDTH, PIXEL_HEIGHT}
 use Rattle.mkv_elements.specs.declared.table.Kind.TheVariants as kinds
 use Rattle.mkv_elements.specs.Table.{kind_in}
@@ -67,18 +67,18 @@ video_read : (levels : ℕ) (bytes : List ℕ) (start width height : ℕ) → St
 video_read levels bytes start width height h =
     let p = video_piece width height in
     let leaves = Reads-leaves levels bytes VIDEO 0 (content_place start p) (video_pieces width height) (leaves-video width height) in
-    ReadsOne-master (suc levels) bytes TRACK_ENTRY 0 (element_of start p) [] refl kind-video (subst (λ (w : Walk). Reads (suc levels) bytes VIDEO 0 w []) (sym (inside-video bytes start width height h)) leaves)
+    ReadsOne-master (suc levels) bytes TRACK_ENTRY 0 (element_of start p) [] refl kind-video (subst (λ (w : Listing). Reads (suc levels) bytes VIDEO 0 w []) (sym (inside-video bytes start width height h)) leaves)
 
 width_of-written : (bytes : List ℕ) (start width height : ℕ) → width ≤ 8192 → Stands bytes start (spelling (video_piece width height)) → side_of bytes PIXEL_WIDTH (Some (element_of start (video_piece width height))) ≡ width
 unfolding side_of
 width_of-written bytes start width height most h =
-    ap (λ (w : Walk). number_of bytes (first PIXEL_WIDTH w)) (inside-video bytes start width height h)
+    ap (λ (w : Listing). number_of bytes (first PIXEL_WIDTH w)) (inside-video bytes start width height h)
     ∙ number_in bytes (content_place start (video_piece width height)) (video_pieces width height) PIXEL_WIDTH 1 2 width (content_stands-video bytes start width height h) refl (omega arith) (omega arith)
 
 height_of-written : (bytes : List ℕ) (start width height : ℕ) → height ≤ 8192 → Stands bytes start (spelling (video_piece width height)) → side_of bytes PIXEL_HEIGHT (Some (element_of start (video_piece width height))) ≡ height
 unfolding side_of
 height_of-written bytes start width height most h =
-    ap (λ (w : Walk). number_of bytes (first PIXEL_HEIGHT w)) (inside-video bytes start width height h)
+    ap (λ (w : Listing). number_of bytes (first PIXEL_HEIGHT w)) (inside-video bytes start width height h)
     ∙ number_in bytes (content_place start (video_piece width height)) (video_pieces width height) PIXEL_HEIGHT 1 2 height (content_stands-video bytes start width height h) refl (omega arith) (omega arith)
 
 -- ---- the TrackEntry
@@ -166,7 +166,7 @@ entry_read levels bytes start private width height most h =
     let last : Reads (suc (suc levels)) bytes TRACK_ENTRY 0 (whole (elements_from later (v ∷ []))) [] = Reads-gives (suc levels) bytes TRACK_ENTRY 0 (element_of later v) (whole []) [] [] (video_read levels bytes later width height video_there) (Reads-ends (suc levels) bytes TRACK_ENTRY 0) in
     let both = Reads-append (suc levels) bytes TRACK_ENTRY 0 (elements_from place leaves) (elements_from later (v ∷ [])) [] [] front last in
     let all : Reads (suc (suc levels)) bytes TRACK_ENTRY 0 (whole (elements_from place (entry_pieces private width height))) [] = subst (λ (es : List Element). Reads (suc (suc levels)) bytes TRACK_ENTRY 0 (whole es) []) (sym (elements_from-append place leaves (v ∷ []))) both in
-    ReadsOne-master (suc (suc levels)) bytes TRACKS 0 (element_of start p) [] refl kind-entry (subst (λ (w : Walk). Reads (suc (suc levels)) bytes TRACK_ENTRY 0 w []) (sym (inside-entry bytes start private width height most h)) all)
+    ReadsOne-master (suc (suc levels)) bytes TRACKS 0 (element_of start p) [] refl kind-entry (subst (λ (w : Listing). Reads (suc (suc levels)) bytes TRACK_ENTRY 0 w []) (sym (inside-entry bytes start private width height most h)) all)
 
 -- ---- Tracks
 
@@ -206,7 +206,7 @@ tracks_read levels bytes start private width height most h =
     let place = content_place start p in
     let one = entry_read levels bytes place private width height most (entry_stands bytes start private width height h) in
     let all : Reads (suc (suc (suc levels))) bytes TRACKS 0 (whole (elements_from place (entry_piece private width height ∷ []))) [] = Reads-gives (suc (suc levels)) bytes TRACKS 0 (element_of place (entry_piece private width height)) (whole []) [] [] one (Reads-ends (suc (suc levels)) bytes TRACKS 0) in
-    ReadsOne-master (suc (suc (suc levels))) bytes SEGMENT 0 (element_of start p) [] refl kind-tracks (subst (λ (w : Walk). Reads (suc (suc (suc levels))) bytes TRACKS 0 w []) (sym (inside-tracks bytes start private width height most h)) all)
+    ReadsOne-master (suc (suc (suc levels))) bytes SEGMENT 0 (element_of start p) [] refl kind-tracks (subst (λ (w : Listing). Reads (suc (suc (suc levels))) bytes TRACKS 0 w []) (sym (inside-tracks bytes start private width height most h)) all)
 
 -- ---- the track that is read
 
@@ -222,7 +222,7 @@ pick test one other is = rw is refl
 is_video-written : (bytes : List ℕ) (start : ℕ) (private : List ℕ) (width height : ℕ) → length private ≤ 65536 → Stands bytes start (spelling (entry_piece private width height)) → is_video bytes (element_of start (entry_piece private width height)) ≡ true
 unfolding is_video
 is_video-written bytes start private width height most h =
-    ap (λ (w : Walk). eqb (number_of bytes (first TRACK_TYPE w)) 1) (inside-entry bytes start private width height most h)
+    ap (λ (w : Listing). eqb (number_of bytes (first TRACK_TYPE w)) 1) (inside-entry bytes start private width height most h)
     ∙ ap (λ (n : ℕ). eqb n 1) (number_in bytes (content_place start (entry_piece private width height)) (entry_pieces private width height) TRACK_TYPE 1 1 1 (content_stands-entry bytes start private width height h) refl (omega arith) (omega arith))
 
 -- where the configuration record lies
@@ -240,19 +240,19 @@ configured bytes start private width height most h =
     let f = finds bytes place (entry_pieces private width height) CODEC_ID codec_piece there refl in
     let g = finds bytes place (entry_pieces private width height) CODEC_PRIVATE (private_piece private) there refl in
     let codec : is_text bytes (codes "V_FFV1") (first CODEC_ID (elements_in bytes (element_of start (entry_piece private width height)))) ≡ true =
-    ap (λ (w : Walk). is_text bytes (codes "V_FFV1") (first CODEC_ID w)) inside ∙ ap (is_text bytes (codes "V_FFV1")) f.found ∙ is_text-spelled bytes (codes "V_FFV1") f.place codec_piece f.stands in
+    ap (λ (w : Listing). is_text bytes (codes "V_FFV1") (first CODEC_ID w)) inside ∙ ap (is_text bytes (codes "V_FFV1")) f.found ∙ is_text-spelled bytes (codes "V_FFV1") f.place codec_piece f.stands in
     let len : g.place + length (spelling (private_piece private)) - content_place g.place (private_piece private) ≡ length private = omega (arith, content_end g.place (private_piece private)) in
     record {
       place = content_place g.place (private_piece private);
       stands = Stands-content bytes g.place (private_piece private) g.stands;
-      is = pick _ _ _ codec ∙ ap (λ (w : Walk). some_place (private_place (first CODEC_PRIVATE w))) inside ∙ ap (λ (e : Option Element). some_place (private_place e)) g.found ∙ ap (λ (n : ℕ). some_place (place_at (content_place g.place (private_piece private)) n)) len;
+      is = pick _ _ _ codec ∙ ap (λ (w : Listing). some_place (private_place (first CODEC_PRIVATE w))) inside ∙ ap (λ (e : Option Element). some_place (private_place e)) g.found ∙ ap (λ (n : ℕ). some_place (place_at (content_place g.place (private_piece private)) n)) len;
     }
 
 is_ffv1-from : (bytes : List ℕ) (e : Element) (place : Place) → is_video bytes e ≡ true → record_place bytes e ≡ some_place place → is_ffv1 bytes e ≡ true
 unfolding is_ffv1
 is_ffv1-from bytes e place video is = rw (video, is) refl
 
-first_where-one : (test : Element → Bool) (e : Element) (rest : Walk) → test e ≡ true → first_where test (gives e rest) ≡ Some e
+first_where-one : (test : Element → Bool) (e : Element) (rest : Listing) → test e ≡ true → first_where test (gives e rest) ≡ Some e
 unfolding first_where
 first_where-one test e rest is = rw is refl
 
@@ -302,10 +302,10 @@ track_read bytes start private width height some_width most_width some_height mo
     record {
       place = c.place;
       stands = c.stands;
-      is = ap (λ (w : Walk). track_among bytes (first_where (is_ffv1 bytes) w) (first_where (is_video bytes) w)) (inside-tracks bytes start private width height most h)
+      is = ap (λ (w : Listing). track_among bytes (first_where (is_ffv1 bytes) w) (first_where (is_video bytes) w)) (inside-tracks bytes start private width height most h)
           ∙ ap (λ (o : Option Element). track_among bytes o (first_where (is_video bytes) (gives e ends))) (first_where-one (is_ffv1 bytes) e ends ffv1)
           ∙ ap (track_with bytes e) c.is
-          ∙ ap (λ (w : Walk). within (number_of bytes (first TRACK_NUMBER w)) (side_of bytes PIXEL_WIDTH (first VIDEO w)) (side_of bytes PIXEL_HEIGHT (first VIDEO w)) record_at (first CONTENT_ENCODINGS w)) inside
+          ∙ ap (λ (w : Listing). within (number_of bytes (first TRACK_NUMBER w)) (side_of bytes PIXEL_WIDTH (first VIDEO w)) (side_of bytes PIXEL_HEIGHT (first VIDEO w)) record_at (first CONTENT_ENCODINGS w)) inside
           ∙ within-same _ _ _ _ _ _ record_at _ _ number_is width_is height_is plain
           ∙ track_within-ok width height c.place (length private) some_width most_width some_height most_height some most;
     }

@@ -1,10 +1,11 @@
-use Rattle.std.proofs.Common.{◌≡◌, Ok, Some, None, refl, sym, ap, ◌∙◌}
+use Rattle.std.proofs.Common.{◌≡◌, Some, None, refl, sym, ap, ◌∙◌}
 use Rattle.std.proofs.lemmas.Result.{err_from_is_err_and}
+use Rattle.ebml_core.specs.Listing.{ends, gives}
 use Rattle.ebml_core.specs.Walking.{LiesAt}
 use Rattle.mkv_elements.specs.declared.table.Kind.{Kind}
 use Rattle.mkv_elements.specs.declared.table.Kind.TheVariants as kinds
-use Rattle.mkv_read.specs.Elements.{next_at}
-use Rattle.mkv_read.proofs.Listing.{read_is, lies_is}
+use Rattle.mkv_read.specs.Elements.{elements}
+use Rattle.mkv_read.proofs.Listing.{ends_is, gives_is, breaks_is, lies_is}
 use Rattle.mkv_read.proofs.Visiting.{fails_at, goes_on_at, over_at, broken_at, at_no_level, at_level, other_element}
 use Rattle.mkv_read.proofs.visit.+visit.Goals as goal
 
@@ -13,7 +14,7 @@ visit-returns-then-inside-eq0-clause-exact t c = at_no_level _ _ _ _ _ _ _ c.if-
 
 pub visit-returns-in-Ok-None-clause-exact : goal.visit-returns-in-Ok-None-clause-exact
 visit-returns-in-Ok-None-clause-exact t c =
-    let next : next_at c.args.bytes.now c.loop-element.place c.args.to ≡ Ok None = read_is _ _ _ _ c.element_at.ensures.exact c.in-Ok-None.is c.in-Ok-None.field-0-is in
+    let next : elements c.args.bytes.now c.loop-element.place c.args.to ≡ ends = ends_is _ _ _ _ _ c.element_at.ensures.exact c.in-Ok-None.is c.in-Ok-None.field-0-is in
     over_at _ _ _ _ _ _ _ next (c.loop-element.invariant.same ∙ at_level _ _ _ _ _ _ _ c.if-inside-eq0.false)
 
 pub visit-returns-in-Ok-None-clause-lie : goal.visit-returns-in-Ok-None-clause-lie
@@ -22,12 +23,12 @@ visit-returns-in-Ok-None-clause-lie t c = c.loop-element.invariant.lie
 pub visit-returns-in_err-visit_element-in-Ok-Some-clause-exact : goal.visit-returns-in_err-visit_element-in-Ok-Some-clause-exact
 visit-returns-in_err-visit_element-in-Ok-Some-clause-exact t c =
     let p = err_from_is_err_and c.from_residual.result c.from_residual.ensures.1 in
-    let next : next_at c.args.bytes.now c.loop-element.place c.args.to ≡ Ok (Some c.in-Ok-Some.element) = read_is _ _ _ _ c.element_at.ensures.exact c.in-Ok-Some.is c.in-Ok-Some.field-0-is in
+    let next : elements c.args.bytes.now c.loop-element.place c.args.to ≡ gives c.in-Ok-Some.element (elements c.args.bytes.now c.in-Ok-Some.element.end c.args.to) = gives_is _ _ _ _ _ _ c.element_at.ensures.exact c.in-Ok-Some.is c.in-Ok-Some.field-0-is in
     rw (p.1, p.2) (fails_at _ _ _ _ _ _ _ _ _ next c.in_err-visit_element-in-Ok-Some.ensures.exact (c.loop-element.invariant.same ∙ at_level _ _ _ _ _ _ _ c.if-inside-eq0.false))
 
 pub visit-loop-element-preserved : goal.visit-loop-element-preserved
 visit-loop-element-preserved t c =
-    let next : next_at c.args.bytes.now c.loop-element.place c.args.to ≡ Ok (Some c.in-Ok-Some.element) = read_is _ _ _ _ c.element_at.ensures.exact c.in-Ok-Some.is c.in-Ok-Some.field-0-is in
+    let next : elements c.args.bytes.now c.loop-element.place c.args.to ≡ gives c.in-Ok-Some.element (elements c.args.bytes.now c.in-Ok-Some.element.end c.args.to) = gives_is _ _ _ _ _ _ c.element_at.ensures.exact c.in-Ok-Some.is c.in-Ok-Some.field-0-is in
     let lies : LiesAt c.loop-element.place c.args.to c.in-Ok-Some.element = lies_is _ _ _ _ _ c.element_at.ensures.lies c.in-Ok-Some.is c.in-Ok-Some.field-0-is in
     record {
       same = goes_on_at _ _ _ _ _ _ _ _ _ next c.in_ok-visit_element-in-Ok-Some.ensures.exact c.loop-element.invariant.same;
@@ -37,7 +38,7 @@ visit-loop-element-preserved t c =
 
 pub visit-returns-in-Err-clause-exact : goal.visit-returns-in-Err-clause-exact
 visit-returns-in-Err-clause-exact t c =
-    broken_at _ _ _ _ _ _ _ _ (sym c.element_at.ensures.exact ∙ c.in-Err.is) (c.loop-element.invariant.same ∙ at_level _ _ _ _ _ _ _ c.if-inside-eq0.false)
+    broken_at _ _ _ _ _ _ _ _ (breaks_is _ _ _ _ _ c.element_at.ensures.exact c.in-Err.is) (c.loop-element.invariant.same ∙ at_level _ _ _ _ _ _ _ c.if-inside-eq0.false)
 
 pub visit_element-returns-in-Some-Unsigned-clause-exact : goal.visit_element-returns-in-Some-Unsigned-clause-exact
 visit_element-returns-in-Some-Unsigned-clause-exact t c =

@@ -1,0 +1,54 @@
+-- What a text lists (RFC 8794 sections 4 to 6): elements one after the other, up to its end, or up to bytes that begin with no element.
+use Rattle.std.specs.Prelude.{◌≡◌, ◌⊎◌, ℕ, ◌+◌, ◌≤◌, ◌==◌, List, [], ◌∷◌, ◌++◌, length, true, if◌then◌else◌}
+use Rattle.std.specs.List.{list_any}
+use Rattle.ebml_core.specs.declared.vint.Size.TheVariants.{Unknown}
+use Rattle.ebml_core.specs.declared.element.Element.{Element}
+use Rattle.ebml_core.specs.Spelling.{Piece, IsPiece, IsId, IsSize, spelling, element_of}
+
+-- Elements, and then nothing more, or more bytes at a place that begin with no element.
+pub data Listing : Type 0 where
+  ends : Listing
+  breaks : ℕ → Listing
+  gives : Element → Listing → Listing
+
+-- the listing of these elements, and nothing more
+abbrev pub whole : List Element → Listing
+whole [] = ends
+whole (e ∷ es) = gives e (whole es)
+
+-- an element whose size is spelled as unknown
+pub record IsOpenPiece (p : Piece) : Type 0 where
+  pub id : IsId p.id_octets p.id
+  pub size : IsSize p.size_octets Unknown
+
+-- where an element of unknown size lies that starts at a place
+abbrev pub open_element : ℕ → Piece → Element
+open_element start p = record (element_of start p) { unknown = true }
+
+-- A text that lies at a place begins with this element, and behind it stands the rest. One of unknown size has its content and that rest as `Ends` says.
+pub record Begins (Ends : Element → List ℕ → List ℕ → Type 0) (place : ℕ) (text : List ℕ) (e : Element) (rest : List ℕ) : Type 0 where
+  pub piece : Piece
+  pub spelled : text ≡ spelling piece ++ rest
+  pub is : (IsPiece piece × (e ≡ element_of place piece)) ⊎ (IsOpenPiece piece × (e ≡ open_element place piece) × Ends e piece.content rest)
+
+-- What a text lists that lies at a place, where elements of unknown size end as `Ends` says.
+abbrev pub Lists : (Element → List ℕ → List ℕ → Type 0) → ℕ → List ℕ → Listing → Type 0
+Lists Ends place text ends = text ≡ []
+Lists Ends place text (breaks at) = (at ≡ place) × (1 ≤ length text) × ((e : Element) (rest : List ℕ) → Begins Ends place text e rest → ⊥)
+Lists Ends place text (gives e later) = (rest : List ℕ) × Begins Ends place text e rest × Lists Ends e.end rest later
+
+-- An element of unknown size ends with its parent.
+abbrev pub EndsWithParent : Element → List ℕ → List ℕ → Type 0
+EndsWithParent e content rest = rest ≡ []
+
+-- Where the first element of one of these ids starts; where there is none, the end.
+unfoldable pub end_before : List ℕ → ℕ → Listing → ℕ
+end_before ids end ends = end
+end_before ids end (breaks at) = end
+end_before ids end (gives e later) = if list_any (λ id. id == e.id) ids then e.start else end_before ids end later
+
+-- An element of unknown size ends before the first element behind its header that may not stand in it, and where there is none, with its parent (RFC 8794 section 6.2).
+-- `ids` tells of each id which these are.
+abbrev pub EndsBeforeNext : (ℕ → List ℕ) → Element → List ℕ → List ℕ → Type 0
+EndsBeforeNext ids e content rest =
+    (behind : Listing) × Lists EndsWithParent e.content (content ++ rest) behind × (e.end ≡ end_before (ids e.id) (e.content + length (content ++ rest)) behind)
