@@ -12,8 +12,7 @@ use Rattle.ebml_core.specs.declared.element.EbmlFault.{EbmlFault}
 use Rattle.ebml_core.specs.declared.element.EbmlWhy.TheVariants as whys
 use Rattle.ebml_core.specs.Spelling.{unsigned_of, size_of, Piece, IsPiece, spelling, element_of, IsId, IsSize, IsVint}
 use Rattle.ebml_core.specs.Reading.{◌>>=◌, octet_count, vint_at, id_at, size_at, header_at, why_of, sized, laid, found, element_at}
-use Rattle.ebml_core.proofs.Numbers.{AreBytes}
-use Rattle.ebml_core.proofs.Vints.{ok_is, passed, TakesVint, vint_takes-bytes, octet_count-some, vint_again}
+use Rattle.ebml_core.proofs.Vints.{ok_is, passed, TakesVint, octet_count-some, vint_again}
 use Rattle.ebml_core.proofs.Pieces.{vint-some, spelling-some}
 
 -- the value of a step that did not fail
@@ -139,23 +138,6 @@ element_at-advances place (octet ∷ rest) e h =
     let r = sized-advances place (suc (length rest)) a.head a.head.size e some (omega arith) a.is in
     record { more = r.0; within = r.1 }
 
-sized-starts : (place room : ℕ) (h : Header) (size : Size) (e : Element) → 1 ≤ h.octets → sized place room h size ≡ Ok e → (e.start ≡ place) × (place < e.content)
-sized-starts place room h Unknown e some is =
-    subst (λ (x : Element). (x.start ≡ place) × (place < x.content)) (element_is _ e is) (refl, omega arith)
-sized-starts place room h (Known size) e some is =
-    let a = guarded (ltb room (h.octets + size)) _ _ e is in
-    subst (λ (x : Element). (x.start ≡ place) × (place < x.content)) a.1 (refl, omega arith)
-
-pub element_at-starts : (place : ℕ) (text : List ℕ) (e : Element) → element_at place text ≡ Ok (Some e) → (e.start ≡ place) × (place < e.content)
-unfolding element_at
-element_at-starts place [] e h = absurd cc
-element_at-starts place (octet ∷ rest) e h =
-    let a = element_parts place (octet ∷ rest) e h in
-    let p = header_parts (octet ∷ rest) a.head a.read in
-    let octets : length p.ids + length p.sizes ≡ a.head.octets = ap (λ (g : Header). g.octets) p.is in
-    let some : 1 ≤ a.head.octets = omega (arith, octets, vint_at-some 4 (octet ∷ rest) p.ids p.id) in
-    sized-starts place (suc (length rest)) a.head a.head.size e some a.is
-
 abbrev element : ℕ → ℕ → ℕ → ℕ → Element
 element id start content end = record { id = id; start = start; content = content; end = end; unknown = false }
 
@@ -275,16 +257,6 @@ element_at-end place (octet ∷ rest) h = absurd (is_found (laid place (suc (len
     is_found (Err fault) h = cc
 
 -- ---- a size alone
-
-pub size_at-takes : (text : List ℕ) (size : Size) (octets : ℕ) → AreBytes text → size_at text ≡ Ok (size, octets) → IsSize (take octets text) size × (octets ≤ length text)
-unfolding size_at
-size_at-takes text size octets fits h =
-    let a = bind_ok (vint_at 8 text) (λ octets. Ok (size_of octets, length octets)) (size, octets) h in
-    let v = vint_takes-bytes 8 text a.0 (omega arith) fits a.1 in
-    let pair = size_pair_is (size_of a.0, length a.0) (size, octets) a.2 in
-    let len : length a.0 ≡ octets = ap (λ (x : Size × ℕ). x.1) pair in
-    let front : a.0 ≡ take octets text = v.front ∙ ap (λ (n : ℕ). take n text) len in
-    ((subst (λ (x : List ℕ). IsVint 8 x) front v.vint, ap (λ (x : Size × ℕ). x.0) (sym pair) ∙ ap size_of front), omega (arith, v.long, len))
 
 pub size_at-again : (octets rest : List ℕ) (size : Size) → IsSize octets size → size_at (octets ++ rest) ≡ Ok (size, length octets)
 unfolding size_at

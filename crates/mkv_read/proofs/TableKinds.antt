@@ -27,18 +27,6 @@ pub segment_in_file : kind_in FILE SEGMENT ≡ Some kinds.Master
 unfolding kind_in
 segment_in_file = refl
 
-pub cluster_in_file : kind_in FILE CLUSTER ≡ None
-unfolding kind_in
-cluster_in_file = refl
-
-pub segment_elsewhere : (parent : ℕ) → eqb FILE parent ≡ false → kind_in parent SEGMENT ≡ None
-unfolding kind_in
-segment_elsewhere parent other = simp other refl
-
-pub file_nowhere : (parent : ℕ) → kind_in parent FILE ≡ None
-unfolding kind_in
-file_nowhere parent = refl
-
 pub others_in_header : (id : ℕ) → eqb id DOC_TYPE ≡ false → kind_in EBML id ≡ None
 unfolding kind_in
 others_in_header id a = simp (and-false, flipped id DOC_TYPE a) refl

@@ -35,9 +35,6 @@ first-later : (id start : ℕ) (q : Piece) (qs : List Piece) → eqb q.id id ≡
 unfolding first_where
 first-later id start q qs there = rw there refl
 
-some_piece : Piece → Option Piece
-some_piece p = Some p
-
 pub finds : (bytes : List ℕ) (start : ℕ) (ps : List Piece) (id : ℕ) (p : Piece) → Stands bytes start (flat_map spelling ps) → piece_named id ps ≡ Some p → Finds bytes (whole (elements_from start ps)) id p
 finds bytes start [] id p h is = absurd cc
 finds bytes start (q ∷ qs) id p h is = by_test (eqb q.id id) refl is (λ later. finds bytes (start + length (spelling q)) qs id p (Stands-back bytes start (spelling q) (flat_map spelling qs) h) later)

@@ -1,7 +1,7 @@
 -- A text that stands at a place, and the elements that it spells there.
-use Rattle.std.proofs.Common.{◌≡◌, ℕ, ◌+◌, ◌-◌, ◌≤◌, List, [], ◌++◌, length, take, drop, refl, sym, ap, subst, ◌∙◌, append_assoc, arith}
+use Rattle.std.proofs.Common.{◌≡◌, ℕ, ◌+◌, ◌-◌, List, ◌++◌, length, take, drop, sym, ap, subst, ◌∙◌, append_assoc, arith}
 use Rattle.std.specs.List.{flat_map, AllByRecursion}
-use Rattle.std.proofs.lemmas.List.{append-nil, length-append, take_at, drop_at}
+use Rattle.std.proofs.lemmas.List.{length-append, take_at, drop_at}
 use Rattle.ebml_core.specs.Spelling.{Piece, IsPiece, spelling, element_of, elements_from, between}
 use Rattle.ebml_core.specs.Listing.{Listing, Lists, EndsBeforeNext, whole}
 use Rattle.ebml_core.proofs.Knowns.{lists-spelled}
@@ -21,11 +21,6 @@ Stands-between bytes from to text h end =
     let rest : drop from bytes ≡ text ++ h.back = ap (drop from) h.is ∙ drop_at h.front (text ++ h.back) from (sym h.place) in
     ap (take (to - from)) rest ∙ take_at text h.back (to - from) (omega arith)
 
-pub Stands-within : (bytes : List ℕ) (from : ℕ) (text : List ℕ) → Stands bytes from text → from + length text ≤ length bytes
-Stands-within bytes from text h =
-    let all : length bytes ≡ length (h.front ++ (text ++ h.back)) = ap length h.is in
-    omega (arith, all, h.place, length-append h.front (text ++ h.back), length-append text h.back)
-
 pub Stands-front : (bytes : List ℕ) (from : ℕ) (a b : List ℕ) → Stands bytes from (a ++ b) → Stands bytes from a
 Stands-front bytes from a b h =
     record { front = h.front; back = b ++ h.back; is = h.is ∙ ap (λ (x : List ℕ). h.front ++ x) (append_assoc a b h.back); place = h.place }
@@ -38,9 +33,6 @@ Stands-back bytes from a b h =
       is = h.is ∙ ap (λ (x : List ℕ). h.front ++ x) (append_assoc a b h.back) ∙ sym (append_assoc h.front a (b ++ h.back));
       place = omega (arith, h.place, length-append h.front a);
     }
-
-pub Stands-all : (bytes : List ℕ) → Stands bytes 0 bytes
-Stands-all bytes = record { front = []; back = []; is = sym (append-nil bytes); place = refl }
 
 -- ---- elements
 

@@ -1,7 +1,7 @@
 -- Steps of loops over a range of frames, and over the filed results.
-use Rattle.std.proofs.Common.{◌≡◌, ℕ, zero, suc, ◌+◌, ◌-◌, ◌<◌, ◌≤◌, cond, Bool, true, false, ◌&&◌, ◌||◌, List, [], ◌∷◌, ◌++◌, length, get_or, take, drop, Some, None, refl, sym, ap, ◌∙◌, arith}
+use Rattle.std.proofs.Common.{◌≡◌, ℕ, zero, suc, ◌+◌, ◌-◌, ◌<◌, ◌≤◌, cond, Bool, true, false, ◌&&◌, ◌||◌, List, [], ◌∷◌, ◌++◌, length, get_or, take, drop, Some, refl, sym, ap, ◌∙◌, arith}
 use Rattle.std.specs.Prelude.{slice_get, ◌==◌}
-use Rattle.std.proofs.lemmas.List.{append_assoc, drop_more, drop_all, take_more}
+use Rattle.std.proofs.lemmas.List.{append_assoc, drop_more, take_more}
 use Rattle.std.proofs.lemmas.Option.{slice_get_within, get_or_from_slice_get}
 use Rattle.std.proofs.lemmas.Bool.Decides.{nat_tests}
 use Rattle.tl_model.specs.Media.{RenderedOf}
@@ -83,9 +83,6 @@ filed_at (r ∷ rs) (suc i) d h = filed_at rs i d (omega arith)
 abbrev pub IsLeft : Recipe → List Recipe → ℕ → Type 0
 IsLeft r rs i = (is_among r (drop i rs) ≡ is_among r rs) × (without r rs ≡ take i rs ++ without r (drop i rs))
 
-left_start : (r : Recipe) (rs : List Recipe) → IsLeft r rs 0
-left_start r rs = (refl, refl)
-
 without_other : (r x : Recipe) (rs : List Recipe) → same_recipe r x ≡ false → without r (x ∷ rs) ≡ x ∷ without r rs
 without_other r x rs e = ap (λ (b : Bool). cond b rs (x ∷ without r rs)) e
 
@@ -111,9 +108,6 @@ left_here r x rs i e f h =
       h.1 ∙ ap (λ (ys : List Recipe). take i rs ++ without r ys) d ∙ ap (λ (ys : List Recipe). take i rs ++ ys) (without_here r x (drop (i + 1) rs) f)
           ∙ ap (λ (k : ℕ). take i rs ++ drop k rs) (sym s),
     )
-
-pub left_end : (r : Recipe) (rs : List Recipe) (i : ℕ) → length rs ≤ i → IsLeft r rs i → Places r rs None
-left_end r rs i l h = sym h.0 ∙ ap (is_among r) (drop_all i rs l)
 
 pub ruleset range_steps = (among_next, among_end, among_start)
 

@@ -10,7 +10,6 @@ use Rattle.mkv_read.specs.declared.clip.ClipIndex.{ClipIndex}
 use Rattle.mkv_write.specs.declared.fault.WriteFault.{WriteFault}
 use Rattle.mkv_write.specs.declared.fault.WriteFault.TheVariants as writing
 use Rattle.mkv_write.specs.Writing.{Writing, IsPrefix, Puts, with_packet, put_of, file_of, WriteHasCause}
-use Rattle.timeline_app.specs.declared.export.Ending.{Ending}
 use Rattle.timeline_app.specs.Script.{Form}
 use Rattle.timeline_app.specs.Run.{bytes_at, IsInside, started_over, with_packets, export_of, IsPartial, WritesExport, EndsExport, ChangesExport, ending_of}
 use Rattle.timeline_app.proofs.Stops.{rose_later}
@@ -100,11 +99,6 @@ ends tells file held script bytes clip before between now (Ok frames) (Err putti
 ends tells file held script bytes clip before between now (Ok frames) (Err putting.NoMemory) at h le le' w p = inl (p ∙ w)
 ends tells file held script bytes clip before between now (Err writing.Sink) ended at h le le' w p = rose_sooner before between now le' w
 ends tells file held script bytes clip before between now (Err writing.NoMemory) ended at h le le' w p = inr (λ told. (held, at told, h told))
-
--- The ending after a begin that left the count as it was.
-pub ends_begun : (tells : Type 0) (file : List ℕ → Option (List ℕ)) (before between now : ℕ) (script : Form) (bytes : List ℕ) (clip : ClipIndex) (ending : Ending) → between ≡ before
-    → EndsExport tells file (between, now) script bytes clip ending → EndsExport tells file (before, now) script bytes clip ending
-ends_begun tells file before between now script bytes clip ending same h = subst (λ (n : ℕ). EndsExport tells file (n, now) script bytes clip ending) same h
 
 -- After a refused begin the file is as before or empty.
 pub refused_begin : (tells : Type 0) (old new : Option (List ℕ)) (script : Form) (bytes : List ℕ) (clip : ClipIndex) → (tells → (new ≡ old) ⊎ (new ≡ Some [])) → ChangesExport tells old new script bytes clip

@@ -76,11 +76,6 @@ all_front (line ∷ lines) = inl (refl, all_front lines)
 pub whole_front : (tells : Type 0) (before after lines : List (List ℕ)) → (tells → after ≡ before ++ lines) → PutsFront tells before after lines
 whole_front tells before after lines said = λ told. (lines, said told, all_front lines)
 
--- What was put of lines that were refused.
-pub refused_front : (tells : Type 0) (before after lines : List (List ℕ)) (faults : Count) (fault : PutFault) → Says tells before after lines faults (Err fault) → PutsFront tells before after lines
-refused_front tells before after lines faults putting.Failed h = h.1
-refused_front tells before after lines faults putting.NoMemory h = some_front tells before after lines h.1
-
 -- A line that was refused stops the session.
 pub refusal_stopped : (tells : Type 0) (faults : Count) (before after : List (List ℕ)) (fault : PutFault) → Says tells before after refused_lines faults (Err fault) → PlaysRefusal tells faults before after (fault_status fault)
 refusal_stopped tells faults before after putting.Failed h =
