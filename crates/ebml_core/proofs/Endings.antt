@@ -1,18 +1,18 @@
--- What a walker has yet to go over, and where an element of unknown size ends.
-use Rattle.std.proofs.Common.{◌≡◌, ℕ, ◌+◌, ◌-◌, ◌≤◌, Bool, true, false, cond, eqb, List, ◌++◌, length, take, drop, Some, Result, Ok, Err, refl, sym, ap, ◌∙◌, subst, arith}
+-- What a walker has yet to go over, and where the content that it goes over ends.
+use Rattle.std.proofs.Common.{◌≡◌, ℕ, ◌+◌, ◌-◌, ◌≤◌, Bool, true, false, List, ◌++◌, length, take, drop, Some, Result, Ok, Err, refl, sym, ap, ◌∙◌, subst, arith}
 use Rattle.std.specs.Prelude.{IfOk}
-use Rattle.std.specs.List.{list_any}
-use Rattle.std.proofs.lemmas.List.{length-append, length-drop, length-take, drop-take, drop-drop, drop_all}
+use Rattle.std.proofs.lemmas.List.{length-append, length-drop, length-take, take_at, take-take, drop_at, drop-take, drop-drop, drop_all}
 use Rattle.ebml_core.specs.declared.element.Element.{Element}
 use Rattle.ebml_core.specs.declared.element.EbmlFault.{EbmlFault}
 use Rattle.ebml_core.specs.Spelling.{between}
 use Rattle.ebml_core.specs.Reading.{found, element_at}
-use Rattle.ebml_core.specs.Listing.{Listing, ends, breaks, gives, Begins, EndsWithParent, end_before}
+use Rattle.ebml_core.specs.Listing.{Listing, ends, breaks, gives, Begins, EndsWithParent, EndsBefore}
 use Rattle.ebml_core.specs.Walking.{Position, ahead, HasAhead}
 use Rattle.ebml_core.proofs.Numbers.{AreBytes, AreBytes-drop}
 use Rattle.ebml_core.proofs.Vints.{vint_takes-bytes}
 use Rattle.ebml_core.proofs.Headers.{TakesElement, element_parts, HeaderParts, header_parts, IsHeaded, headed-stands, headed-opens, element_at-fault, record_is}
 use Rattle.ebml_core.proofs.Listings.{stands-begins, opens-begins, none-begins}
+use Rattle.ebml_core.proofs.Scans.{end_before, parted}
 
 pub drop-between : (bytes : List ℕ) (from mid to : ℕ) → from ≤ mid → mid ≤ to → drop (mid - from) (between bytes from to) ≡ between bytes mid to
 drop-between bytes from mid to le le2 =
@@ -21,17 +21,6 @@ drop-between bytes from mid to le le2 =
 
 pub long-between : (bytes : List ℕ) (from to : ℕ) → from ≤ to → to ≤ length bytes → length (between bytes from to) ≡ to - from
 long-between bytes from to order within = length-take (to - from) (drop from bytes) ∙ omega (arith, length-drop from bytes, order, within)
-
-abbrev stops : List ℕ → Element → Bool
-stops ids e = list_any (λ id. eqb id e.id) ids
-
-pub end_before-here : (ids : List ℕ) (end : ℕ) (e : Element) (later : Listing) → stops ids e ≡ true → end_before ids end (gives e later) ≡ e.start
-unfolding end_before
-end_before-here ids end e later stop = ap (λ (b : Bool). cond b e.start (end_before ids end later)) stop
-
-pub end_before-past : (ids : List ℕ) (end : ℕ) (e : Element) (later : Listing) → stops ids e ≡ false → end_before ids end (gives e later) ≡ end_before ids end later
-unfolding end_before
-end_before-past ids end e later past = ap (λ (b : Bool). cond b e.start (end_before ids end later)) past
 
 -- An element that is read begins the text.
 pub read-begins : (place : ℕ) (text : List ℕ) (e : Element) → AreBytes text → element_at place text ≡ Ok (Some e) → Begins EndsWithParent place text e (drop (e.end - place) text)
@@ -77,3 +66,17 @@ ahead-gives p e later order within begins h =
 pub found-begins : (place : ℕ) (text : List ℕ) (r : Result Element EbmlFault) → AreBytes text → element_at place text ≡ found r → IfOk r (λ e. Begins EndsWithParent place text e (drop (e.end - place) text))
 found-begins place text (Ok e) fits read = read-begins place text e fits read
 found-begins place text (Err fault) fits read = tt
+
+-- Where a scan of what lies ahead stops, there the content ends.
+pub scanned : (ids : List ℕ) (p : Position) (stop : ℕ) (w : Listing) → p.place ≤ p.end → p.end ≤ length p.bytes → HasAhead p w → stop ≡ end_before ids p.end w → EndsBefore ids p.place (between p.bytes p.place stop) (between p.bytes stop p.end)
+scanned ids p stop w order within h is =
+    let text = ahead p in
+    let s = parted ids w p.place text h in
+    let long : length text ≡ p.end - p.place = long-between p.bytes p.place p.end order within in
+    let stops : stop ≡ p.place + length s.content = is ∙ ap (λ (n : ℕ). end_before ids n w) (omega (arith, long, order)) ∙ sym s.stop in
+    let few : length s.content ≤ p.end - p.place = omega (arith, long, ap length s.whole, length-append s.content s.rest) in
+    let front : between p.bytes p.place stop ≡ s.content =
+    ap (λ (n : ℕ). take n (drop p.place p.bytes)) (omega (arith, stops)) ∙ sym (take-take (length s.content) (p.end - p.place) (drop p.place p.bytes) few) ∙ ap (take (length s.content)) s.whole ∙ take_at s.content s.rest (length s.content) refl in
+    let behind : between p.bytes stop p.end ≡ s.rest =
+    sym (drop-between p.bytes p.place stop p.end (omega (arith, stops)) (omega (arith, stops, few, order))) ∙ ap (drop (stop - p.place)) s.whole ∙ drop_at s.content s.rest (stop - p.place) (omega (arith, stops)) in
+    subst (λ (x : List ℕ). EndsBefore ids p.place x (between p.bytes stop p.end)) (sym front) (subst (EndsBefore ids p.place s.content) (sym behind) s.ended)

@@ -1,9 +1,9 @@
 -- Elements of known size are listed where they are spelled, and spelled where they are listed.
-use Rattle.std.proofs.Common.{◌≡◌, ◌⊎◌, inl, inr, ℕ, false, ◌+◌, List, [], ◌∷◌, ◌++◌, length, refl, sym, ap, ◌∙◌}
+use Rattle.std.proofs.Common.{◌≡◌, ◌⊎◌, inl, inr, ℕ, false, ◌+◌, List, [], ◌∷◌, ◌++◌, length, refl, sym, ap, ◌∙◌, subst}
 use Rattle.std.proofs.lemmas.Bool.{true≢false}
 use Rattle.std.specs.List.{flat_map, AllByRecursion}
 use Rattle.ebml_core.specs.declared.element.Element.{Element}
-use Rattle.ebml_core.specs.Spelling.{Piece, IsPiece, Spells, spelling, element_of, elements_from}
+use Rattle.ebml_core.specs.Spelling.{Piece, IsPiece, Spells, Holds, spelling, element_of, elements_from, between}
 use Rattle.ebml_core.specs.Listing.{IsOpenPiece, open_element, Begins, Lists, whole}
 
 -- An element of known size begins a text.
@@ -30,12 +30,12 @@ begins-known Ends place text e rest known b = by_kind b.is
     by_kind (inr opened) = absurd (true≢false (ap (λ (x : Element). x.unknown) (sym opened.1) ∙ known))
 
 -- The text at a place is these elements of known size.
-pub record LiesSpelled (place : ℕ) (text : List ℕ) (es : List Element) : Type 0 where
+record LiesSpelled (place : ℕ) (text : List ℕ) (es : List Element) : Type 0 where
   pub pieces : List Piece
   pub spelled : Spells text pieces
   pub placed : es ≡ elements_from place pieces
 
-pub spelled-lists : (Ends : Element → List ℕ → List ℕ → Type 0) (es : List Element) (place : ℕ) (text : List ℕ) → AllByRecursion (λ e. e.unknown ≡ false) es → Lists Ends place text (whole es) → LiesSpelled place text es
+spelled-lists : (Ends : Element → List ℕ → List ℕ → Type 0) (es : List Element) (place : ℕ) (text : List ℕ) → AllByRecursion (λ e. e.unknown ≡ false) es → Lists Ends place text (whole es) → LiesSpelled place text es
 spelled-lists Ends [] place text known h = record { pieces = []; spelled = record { each = tt; whole = h }; placed = refl }
 spelled-lists Ends (e ∷ es) place text known h =
     let one = begins-known Ends place text e h.0 known.0 h.1 in
@@ -46,3 +46,13 @@ spelled-lists Ends (e ∷ es) place text known h =
       spelled = record { each = (one.is, rest.spelled.each); whole = one.spelled ∙ ap (λ (x : List ℕ). spelling one.piece ++ x) rest.spelled.whole };
       placed = ap (λ (x : Element). x ∷ es) one.placed ∙ ap (λ (xs : List Element). element_of place one.piece ∷ xs) (rest.placed ∙ ap (λ (n : ℕ). elements_from n rest.pieces) end);
     }
+
+pub holds-lists : (Ends : Element → List ℕ → List ℕ → Type 0) (bytes : List ℕ) (from to : ℕ) (es : List Element) → Holds bytes from to es → Lists Ends from (between bytes from to) (whole es)
+holds-lists Ends bytes from to es holds =
+    subst (λ (xs : List Element). Lists Ends from (between bytes from to) (whole xs)) (sym holds.placed)
+    (subst (λ (text : List ℕ). Lists Ends from text (whole (elements_from from holds.pieces))) (sym holds.spelled.whole) (lists-spelled Ends from holds.pieces holds.spelled.each))
+
+pub lists-holds : (Ends : Element → List ℕ → List ℕ → Type 0) (bytes : List ℕ) (from to : ℕ) (es : List Element) → AllByRecursion (λ e. e.unknown ≡ false) es → Lists Ends from (between bytes from to) (whole es) → Holds bytes from to es
+lists-holds Ends bytes from to es known h =
+    let lies = spelled-lists Ends es from (between bytes from to) known h in
+    record { pieces = lies.pieces; spelled = lies.spelled; placed = lies.placed }

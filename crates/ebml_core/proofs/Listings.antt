@@ -1,6 +1,5 @@
 -- Each text lists one thing.
-use Rattle.std.proofs.Common.{◌≡◌, ◌⊎◌, inl, inr, ℕ, zero, suc, true, false, Bool, cond, eqb, ◌+◌, ◌-◌, ◌<◌, ◌≤◌, List, [], ◌∷◌, ◌++◌, length, take, drop, Option, Some, None, Result, Ok, Err, refl, sym, ap, ◌∙◌, subst, append_assoc, arith}
-use Rattle.std.specs.List.{list_any}
+use Rattle.std.proofs.Common.{◌≡◌, ◌⊎◌, inl, inr, ℕ, zero, suc, true, false, Bool, ◌+◌, ◌-◌, ◌<◌, ◌≤◌, List, [], ◌∷◌, ◌++◌, length, take, drop, Option, Some, None, Result, Ok, Err, refl, sym, ap, ◌∙◌, subst, append_assoc, arith}
 use Rattle.std.proofs.lemmas.Bool.{cases_lt}
 use Rattle.std.proofs.lemmas.List.{append-nil, length-append, length-take-le, drop_at, drop_all, take-append-drop}
 use Rattle.ebml_core.specs.declared.vint.Size.{Size}
@@ -9,7 +8,7 @@ use Rattle.ebml_core.specs.declared.element.Element.{Element}
 use Rattle.ebml_core.specs.declared.element.EbmlFault.{EbmlFault}
 use Rattle.ebml_core.specs.Spelling.{unsigned_of, size_of, IsVint, Piece, IsPiece, spelling, element_of}
 use Rattle.ebml_core.specs.Reading.{vint_at, element_at}
-use Rattle.ebml_core.specs.Listing.{Listing, ends, breaks, gives, IsOpenPiece, open_element, Begins, Lists, EndsWithParent, EndsBeforeNext, end_before}
+use Rattle.ebml_core.specs.Listing.{Listing, ends, breaks, gives, IsOpenPiece, open_element, Begins, Lists, EndsWithParent}
 use Rattle.ebml_core.proofs.Numbers.{AreBytes}
 use Rattle.ebml_core.proofs.Vints.{ok_is, vint_takes, vint_again}
 use Rattle.ebml_core.proofs.Pieces.{same_vints, same_fronts, vint-some, spelling-some}
@@ -125,14 +124,6 @@ lists-one Ends exact (gives d before) (gives e later) place text h k =
 pub exact-parent : IsExact EndsWithParent
 exact-parent d e x y v w id content dx ev same hd he =
     ap length (sym (append-nil x) ∙ ap (λ (t : List ℕ). x ++ t) (sym hd) ∙ same ∙ ap (λ (t : List ℕ). v ++ t) he ∙ append-nil v)
-
-pub exact-next : (ids : ℕ → List ℕ) → IsExact (EndsBeforeNext ids)
-exact-next ids d e x y v w id content dx ev same hd he =
-    let moved : Lists EndsWithParent d.content (x ++ y) he.0 = subst (λ (n : ℕ). Lists EndsWithParent n (x ++ y) he.0) (sym content) (subst (λ (t : List ℕ). Lists EndsWithParent e.content t he.0) (sym same) he.1) in
-    let one : hd.0 ≡ he.0 = lists-one EndsWithParent exact-parent hd.0 he.0 d.content (x ++ y) hd.1 moved in
-    let total : d.content + length (x ++ y) ≡ e.content + length (v ++ w) = omega (arith, content, ap length same) in
-    let end : d.end ≡ e.end = hd.2 ∙ ap (λ (n : ℕ). end_before (ids n) (d.content + length (x ++ y)) hd.0) id ∙ ap (λ (n : ℕ). end_before (ids e.id) n hd.0) total ∙ ap (end_before (ids e.id) (e.content + length (v ++ w))) one ∙ sym he.2 in
-    omega (arith, end, dx, ev, content)
 
 -- ---- one thing at least
 
@@ -258,7 +249,7 @@ front_of Ends has place text = by_read (element_at place text) refl
         let p = header_parts text a.head a.read in
         by_octets e read a p (bytes_or_not p.ids) (bytes_or_not p.sizes)
 
-listed_upto : (Ends : Element → List ℕ → List ℕ → Type 0) → HasEnds Ends → (most place : ℕ) (text : List ℕ) → length text < most → (w : Listing) × Lists Ends place text w
+pub listed_upto : (Ends : Element → List ℕ → List ℕ → Type 0) → HasEnds Ends → (most place : ℕ) (text : List ℕ) → length text < most → (w : Listing) × Lists Ends place text w
 listed_upto Ends has zero place text few = absurd (omega arith)
 listed_upto Ends has (suc most) place text few = elim (front_of Ends has place text) [
   | inl empty ↦ (ends, empty)
@@ -275,31 +266,3 @@ ends-parent id start content text = (length text, omega arith, drop_all (length 
 -- What a text lists where elements of unknown size end with their parent.
 pub listed : (place : ℕ) (text : List ℕ) → (w : Listing) × Lists EndsWithParent place text w
 listed place text = listed_upto EndsWithParent ends-parent (suc (length text)) place text (omega arith)
-
-pub end_before-within : (Ends : Element → List ℕ → List ℕ → Type 0) (ids : List ℕ) (w : Listing) (place : ℕ) (text : List ℕ) (end : ℕ) → end ≡ place + length text → Lists Ends place text w → (place ≤ end_before ids end w) × (end_before ids end w ≤ end)
-unfolding end_before
-end_before-within Ends ids ends place text end is h = (omega (arith, is), omega arith)
-end_before-within Ends ids (breaks at) place text end is h = (omega (arith, is), omega arith)
-end_before-within Ends ids (gives e later) place text end is h =
-    let lies = begins-lies Ends place text e h.0 h.1 in
-    let rest = end_before-within Ends ids later e.end h.0 end (omega (arith, is, lies.end)) h.2 in
-    by_test (list_any (λ id. eqb id e.id) ids) lies rest
-  where
-    by_test : (stop : Bool) → LiesFirst place text e h.0 → (e.end ≤ end_before ids end later) × (end_before ids end later ≤ end) → (place ≤ cond stop e.start (end_before ids end later)) × (cond stop e.start (end_before ids end later) ≤ end)
-    by_test true lies rest = (omega (arith, lies.start), omega (arith, lies.start, lies.header, lies.content, lies.end, is))
-    by_test false lies rest = (omega (arith, lies.header, lies.content, rest.0), rest.1)
-
-ends-next : (ids : ℕ → List ℕ) → HasEnds (EndsBeforeNext ids)
-ends-next ids id start content text =
-    let behind = listed content text in
-    let stop = end_before (ids id) (content + length text) behind.0 in
-    let within = end_before-within EndsWithParent (ids id) behind.0 content text (content + length text) refl behind.1 in
-    let n = stop - content in
-    let both : take n text ++ drop n text ≡ text = take-append-drop n text in
-    let there : Lists EndsWithParent content (take n text ++ drop n text) behind.0 = subst (λ (t : List ℕ). Lists EndsWithParent content t behind.0) (sym both) behind.1 in
-    let end : content + n ≡ end_before (ids id) (content + length (take n text ++ drop n text)) behind.0 = omega (arith, within) ∙ ap (λ (t : List ℕ). end_before (ids id) (content + length t) behind.0) (sym both) in
-    (n, omega (arith, within), (behind.0, there, end))
-
--- What a text lists where elements of unknown size end before the next that may not stand in them.
-pub listed_next : (ids : ℕ → List ℕ) (place : ℕ) (text : List ℕ) → (w : Listing) × Lists (EndsBeforeNext ids) place text w
-listed_next ids place text = listed_upto (EndsBeforeNext ids) (ends-next ids) (suc (length text)) place text (omega arith)

@@ -1,5 +1,5 @@
 -- What a text lists (RFC 8794 sections 4 to 6): elements one after the other, up to its end, or up to bytes that begin with no element.
-use Rattle.std.specs.Prelude.{◌≡◌, ◌⊎◌, ℕ, ◌+◌, ◌≤◌, ◌==◌, List, [], ◌∷◌, ◌++◌, length, true, if◌then◌else◌}
+use Rattle.std.specs.Prelude.{◌≡◌, ◌⊎◌, ℕ, ◌+◌, ◌≤◌, ◌==◌, Bool, true, false, List, [], ◌∷◌, ◌++◌, length}
 use Rattle.std.specs.List.{list_any}
 use Rattle.ebml_core.specs.declared.vint.Size.TheVariants.{Unknown}
 use Rattle.ebml_core.specs.declared.element.Element.{Element}
@@ -41,14 +41,31 @@ Lists Ends place text (gives e later) = (rest : List ℕ) × Begins Ends place t
 abbrev pub EndsWithParent : Element → List ℕ → List ℕ → Type 0
 EndsWithParent e content rest = rest ≡ []
 
--- Where the first element of one of these ids starts; where there is none, the end.
-unfoldable pub end_before : List ℕ → ℕ → Listing → ℕ
-end_before ids end ends = end
-end_before ids end (breaks at) = end
-end_before ids end (gives e later) = if list_any (λ id. id == e.id) ids then e.start else end_before ids end later
+-- whether an element has one of these ids
+abbrev pub is_among : List ℕ → Element → Bool
+is_among ids e = list_any (λ id. id == e.id) ids
 
--- An element of unknown size ends before the first element behind its header that may not stand in it, and where there is none, with its parent (RFC 8794 section 6.2).
--- `ids` tells of each id which these are.
+-- No element of these ids is listed.
+abbrev pub ListsNone : List ℕ → Listing → Type 0
+ListsNone ids ends = Unit {0}
+ListsNone ids (breaks at) = Unit {0}
+ListsNone ids (gives e later) = (is_among ids e ≡ false) × ListsNone ids later
+
+-- Only elements of known size are listed, and nothing more.
+abbrev pub IsWhole : Listing → Type 0
+IsWhole ends = Unit {0}
+IsWhole (breaks at) = ⊥
+IsWhole (gives e later) = (e.unknown ≡ false) × IsWhole later
+
+-- A text that lies at a place begins with an element of one of these ids.
+abbrev pub BeginsWithOne : List ℕ → ℕ → List ℕ → Type 0
+BeginsWithOne ids place text = (e : Element) × (rest : List ℕ) × Begins EndsWithParent place text e rest × (is_among ids e ≡ true)
+
+-- A content that lies at a place ends before elements of these ids, with this rest behind it. It lists none of them. And nothing stands behind it, or it is whole and one of them does.
+abbrev pub EndsBefore : List ℕ → ℕ → List ℕ → List ℕ → Type 0
+EndsBefore ids place content rest =
+    (inside : Listing) × Lists EndsWithParent place content inside × ListsNone ids inside × ((rest ≡ []) ⊎ (IsWhole inside × BeginsWithOne ids (place + length content) rest))
+
+-- An element of unknown size ends before the next that may not stand in it (RFC 8794 section 6.2). `ids` tells of each id which these are.
 abbrev pub EndsBeforeNext : (ℕ → List ℕ) → Element → List ℕ → List ℕ → Type 0
-EndsBeforeNext ids e content rest =
-    (behind : Listing) × Lists EndsWithParent e.content (content ++ rest) behind × (e.end ≡ end_before (ids e.id) (e.content + length (content ++ rest)) behind)
+EndsBeforeNext ids e content rest = EndsBefore (ids e.id) e.content content rest

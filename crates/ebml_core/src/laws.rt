@@ -23,10 +23,15 @@ pub fn one_listing()
         → Lists (EndsBeforeNext ids) place text a → Lists (EndsBeforeNext ids) place text b → a ≡ b }
 {}
 
-/// Elements of known size are listed, and nothing more, exactly where the bytes spell them.
+/// Elements of known size are listed, and nothing more, exactly where the bytes spell them, however those of unknown
+/// size end.
 pub fn known_is_spelled()
     ensures listed { (bytes : List ℕ) (from to : ℕ) (es : List Element) → Holds bytes from to es
         → Lists EndsWithParent from (between bytes from to) (whole es) }
     ensures spelled { (bytes : List ℕ) (from to : ℕ) (es : List Element) → AllByRecursion (λ e. e.unknown ≡ false) es
         → Lists EndsWithParent from (between bytes from to) (whole es) → Holds bytes from to es }
+    ensures listed_before { (ids : ℕ → List ℕ) (bytes : List ℕ) (from to : ℕ) (es : List Element) → Holds bytes from to es
+        → Lists (EndsBeforeNext ids) from (between bytes from to) (whole es) }
+    ensures spelled_before { (ids : ℕ → List ℕ) (bytes : List ℕ) (from to : ℕ) (es : List Element) → AllByRecursion (λ e. e.unknown ≡ false) es
+        → Lists (EndsBeforeNext ids) from (between bytes from to) (whole es) → Holds bytes from to es }
 {}

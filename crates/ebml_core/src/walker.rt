@@ -1,6 +1,7 @@
 ghost use Rattle.std.specs.Prelude.{◌≡◌, ℕ, ◌+◌, ◌-◌, ◌^◌, ◌*◌, ◌<◌, ◌≤◌, length, drop, IfOk, IfSome};
 ghost use Rattle.ebml_core.specs.Reading.{header_at, sized, element_at, found};
-ghost use Rattle.ebml_core.specs.Listing.{Listing, Begins, EndsWithParent, end_before};
+ghost use Rattle.ebml_core.specs.Spelling.{between};
+ghost use Rattle.ebml_core.specs.Listing.{Listing, Begins, EndsWithParent, EndsBefore};
 ghost use Rattle.ebml_core.specs.Walking.{Position, ahead, HasAhead, place_after, LiesAt, given};
 
 use crate::element::{EbmlFault, EbmlWhy, Element, Header};
@@ -125,7 +126,7 @@ impl<'a> Walker<'a> {
     /// and before the first faulty element: so an element of unknown size ends whose content is walked
     /// (RFC 8794 section 6.2).
     pub fn end_before(mut self, ids: &[u32]) -> u64
-        ensures exact { (listing : Listing) × HasAhead self.entry listing × (result ≡ end_before ids.now self.entry.end listing) }
+        ensures exact { EndsBefore ids.now self.entry.place (between self.entry.bytes self.entry.place result) (between self.entry.bytes result self.entry.end) }
         ensures within { (self.entry.place ≤ result) × (result ≤ self.entry.end) }
     {
         loop {

@@ -2,14 +2,15 @@
 use Rattle.std.proofs.Common.{◌≡◌, ◌⊎◌, inl, inr, ℕ, ◌+◌, ◌-◌, ◌≤◌, Bool, true, false, cond, eqb, List, [], ◌++◌, length, take, drop, Option, Some, None, Result, Ok, Err, refl, sym, ap, subst, ◌∙◌, append_assoc, arith}
 use Rattle.std.specs.Prelude.{IfOk, IfSome}
 use Rattle.std.proofs.lemmas.Bool.{eqb-true, eq-eqb, true≢false}
-use Rattle.std.proofs.lemmas.List.{length-append, length-take, length-take-le, drop_at, take-append-drop, append-nil}
+use Rattle.std.proofs.lemmas.List.{length-append, length-take, length-take-le, take-take, drop_at, take-append-drop, append-nil}
 use Rattle.ebml_core.specs.declared.element.Element.{Element}
 use Rattle.ebml_core.specs.declared.element.EbmlFault.{EbmlFault}
 use Rattle.ebml_core.specs.Spelling.{Piece, IsPiece, spelling, element_of, between}
-use Rattle.ebml_core.specs.Listing.{Listing, ends, breaks, gives, IsOpenPiece, open_element, Begins, Lists, EndsWithParent, EndsBeforeNext, end_before}
+use Rattle.ebml_core.specs.Listing.{Listing, ends, breaks, gives, IsOpenPiece, open_element, Begins, Lists, EndsWithParent, ListsNone, EndsBefore, EndsBeforeNext}
 use Rattle.ebml_core.specs.Walking.{LiesAt, place_after, given}
 use Rattle.ebml_core.proofs.Headers.{record_is}
-use Rattle.ebml_core.proofs.Listings.{begins-lies, lists-one, exact-next, listed, listed_next, end_before-within}
+use Rattle.ebml_core.proofs.Listings.{begins-lies, lists-one, listed}
+use Rattle.ebml_core.proofs.Scans.{exact-next, listed_next}
 use Rattle.ebml_core.proofs.Endings.{drop-between, long-between}
 use Rattle.mkv_elements.specs.declared.TheConstants.{CLUSTER, TOP_LEVEL}
 use Rattle.mkv_read.specs.Elements.{content_of, next_of, ListsFrom, elements, first_where}
@@ -65,44 +66,42 @@ begins-opened place text d rest unknown b = by_kind b.is
     by_kind (inl k) = absurd (true≢false (sym unknown ∙ ap (λ (x : Element). x.unknown) k.1))
     by_kind (inr opened) = record { piece = b.piece; is = opened.0; placed = opened.1; spelled = b.spelled ∙ ap (λ (x : List ℕ). spelling b.piece ++ x) opened.2 ∙ append-nil (spelling b.piece) }
 
-cut_piece : Piece → ℕ → Piece
-cut_piece p n = record p { content = take n p.content }
+cut_piece : Piece → List ℕ → Piece
+cut_piece p content = record p { content = content }
 
 -- An element of unknown size, cut where it ends.
-begins-cut : (place : ℕ) (text : List ℕ) (d : Element) → (o : IsOpened place text d) → (behind : Listing) (stop : ℕ) → Lists EndsWithParent d.content o.piece.content behind → d.content ≤ stop → stop ≤ d.end → stop ≡ end_before (next_of d.id) d.end behind → Begins (EndsBeforeNext next_of) place text (record d { end = stop }) (drop (stop - d.content) o.piece.content)
+begins-cut : (place : ℕ) (text : List ℕ) (d : Element) → (o : IsOpened place text d) → (content rest : List ℕ) (stop : ℕ) → o.piece.content ≡ content ++ rest → stop ≡ d.content + length content → EndsBefore (next_of d.id) d.content content rest → Begins (EndsBeforeNext next_of) place text (record d { end = stop }) rest
 unfolding cut_piece
-begins-cut place text d o behind stop listed after before is =
+begins-cut place text d o content rest stop whole at ended =
     let p = o.piece in
-    let n = stop - d.content in
-    let q = cut_piece p n in
+    let q = cut_piece p content in
     let header : d.content ≡ place + (length p.id_octets + length p.size_octets) = ap (λ (x : Element). x.content) o.placed in
-    let end : d.end ≡ place + length (spelling p) = ap (λ (x : Element). x.end) o.placed in
-    let parts : length (spelling p) ≡ length p.id_octets + (length p.size_octets + length p.content) = length-append p.id_octets (p.size_octets ++ p.content) ∙ ap (λ (m : ℕ). length p.id_octets + m) (length-append p.size_octets p.content) in
-    let few : n ≤ length p.content = omega (arith, header, end, parts, before) in
-    let cut : length (take n p.content) ≡ n = length-take-le n p.content few in
-    let parts_cut : length (spelling q) ≡ length p.id_octets + (length p.size_octets + length (take n p.content)) = length-append p.id_octets (p.size_octets ++ take n p.content) ∙ ap (λ (m : ℕ). length p.id_octets + m) (length-append p.size_octets (take n p.content)) in
-    let both : take n p.content ++ drop n p.content ≡ p.content = take-append-drop n p.content in
-    let all : d.end ≡ d.content + length (take n p.content ++ drop n p.content) = omega (arith, header, end, parts, ap length both) in
-    let regrouped : spelling q ++ drop n p.content ≡ spelling p = append_assoc p.id_octets (p.size_octets ++ take n p.content) (drop n p.content) ∙ ap (λ (x : List ℕ). p.id_octets ++ x) (append_assoc p.size_octets (take n p.content) (drop n p.content) ∙ ap (λ (x : List ℕ). p.size_octets ++ x) both) in
+    let parts : length (spelling q) ≡ length p.id_octets + (length p.size_octets + length content) = length-append p.id_octets (p.size_octets ++ content) ∙ ap (λ (m : ℕ). length p.id_octets + m) (length-append p.size_octets content) in
+    let regrouped : spelling q ++ rest ≡ spelling p = append_assoc p.id_octets (p.size_octets ++ content) rest ∙ ap (λ (x : List ℕ). p.id_octets ++ x) (append_assoc p.size_octets content rest ∙ ap (λ (x : List ℕ). p.size_octets ++ x) (sym whole)) in
     record {
       piece = q;
       spelled = o.spelled ∙ sym regrouped;
       is = inr (
         record { id = o.is.id; size = o.is.size },
-        record_is (record d { end = stop }) (open_element place q) (ap (λ (x : Element). x.id) o.placed) (ap (λ (x : Element). x.start) o.placed) header (omega (arith, parts_cut, cut, header, after)) (ap (λ (x : Element). x.unknown) o.placed),
-        (behind, subst (λ (x : List ℕ). Lists EndsWithParent d.content x behind) (sym both) listed, is ∙ ap (λ (m : ℕ). end_before (next_of d.id) m behind) all),
+        record_is (record d { end = stop }) (open_element place q) (ap (λ (x : Element). x.id) o.placed) (ap (λ (x : Element). x.start) o.placed) header (omega (arith, parts, header, at)) (ap (λ (x : Element). x.unknown) o.placed),
+        ended,
       );
     }
 
-pub end_before-none : (end : ℕ) (w : Listing) → end_before [] end w ≡ end
-unfolding end_before
-end_before-none end ends = refl
-end_before-none end (breaks at) = refl
-end_before-none end (gives e later) = end_before-none end later
+-- Nothing that is listed has an id of none.
+pub lists-none : (w : Listing) → ListsNone [] w
+lists-none ends = tt
+lists-none (breaks at) = tt
+lists-none (gives e later) = (refl, lists-none later)
+
+-- What ends before no element ends with its parent.
+pub ends-last : (place : ℕ) (content : List ℕ) → EndsBefore [] place content []
+ends-last place content = let all = listed place content in (all.0, all.1, lists-none all.0, inl refl)
 
 -- What `ended` answers of an element that was read.
 pub record IsEnded (bytes : List ℕ) (d e : Element) : Type 0 where
-  pub cluster : d.unknown ≡ true → d.id ≡ CLUSTER → (behind : Listing) × Lists EndsWithParent d.content (content_of bytes d) behind × (e ≡ record d { end = end_before TOP_LEVEL d.end behind })
+  pub cluster : d.unknown ≡ true → d.id ≡ CLUSTER → (e ≡ record d { end = e.end }) × EndsBefore TOP_LEVEL d.content (content_of bytes e) (between bytes e.end d.end)
+  pub lies : (e.content ≤ e.end) × (e.end ≤ d.end)
   pub other : (d.unknown ≡ true → d.id ≡ CLUSTER → ⊥) → e ≡ d
 
 next_of-cluster : (id : ℕ) → id ≡ CLUSTER → next_of id ≡ TOP_LEVEL
@@ -128,30 +127,35 @@ opened_content bytes place end d order long o =
 ended_opened : (bytes : List ℕ) (place end : ℕ) (d e : Element) → place ≤ end → end ≤ length bytes → (o : IsOpened place (between bytes place end) d) → IsEnded bytes d e → d.unknown ≡ true → elements bytes place end ≡ gives e (elements bytes e.end end)
 ended_opened bytes place end d e order long o h unknown = by_id (eqb d.id CLUSTER) refl
   where
-    header : d.content ≤ d.end
-    header =
-        let content = ap (λ (x : Element). x.content) o.placed in
-        let d_end = ap (λ (x : Element). x.end) o.placed in
-        omega (arith, content, d_end, length-append o.piece.id_octets (o.piece.size_octets ++ o.piece.content), length-append o.piece.size_octets o.piece.content)
+    content : content_of bytes d ≡ o.piece.content
+    content = opened_content bytes place end d order long o
 
-    with_stop : (behind : Listing) (stop : ℕ) → Lists EndsWithParent d.content o.piece.content behind → stop ≡ end_before (next_of d.id) d.end behind → e ≡ record d { end = stop } → elements bytes place end ≡ gives e (elements bytes e.end end)
-    with_stop behind stop listed is same =
-        let d_end : d.end ≡ d.content + length o.piece.content =
-        ap (λ (x : Element). x.end) o.placed ∙ omega (arith, ap (λ (x : Element). x.content) o.placed, length-append o.piece.id_octets (o.piece.size_octets ++ o.piece.content), length-append o.piece.size_octets o.piece.content) in
-        let within = end_before-within EndsWithParent (next_of d.id) behind d.content o.piece.content d.end d_end listed in
-        let begins = begins-cut place (between bytes place end) d o behind stop listed (omega (arith, within, is)) (omega (arith, within, is)) is in
-        subst (λ (x : Element). elements bytes place end ≡ gives x (elements bytes x.end end)) (sym same) (elements-first bytes place end (record d { end = stop }) _ begins)
+    d_end : d.end ≡ d.content + length o.piece.content
+    d_end = ap (λ (x : Element). x.end) o.placed ∙ omega (arith, ap (λ (x : Element). x.content) o.placed, length-append o.piece.id_octets (o.piece.size_octets ++ o.piece.content), length-append o.piece.size_octets o.piece.content)
+
+    with_parts : (x rest : List ℕ) (stop : ℕ) → o.piece.content ≡ x ++ rest → stop ≡ d.content + length x → EndsBefore (next_of d.id) d.content x rest → e ≡ record d { end = stop } → elements bytes place end ≡ gives e (elements bytes e.end end)
+    with_parts x rest stop whole at ended same =
+        subst (λ (y : Element). elements bytes place end ≡ gives y (elements bytes y.end end)) (sym same) (elements-first bytes place end (record d { end = stop }) rest (begins-cut place (between bytes place end) d o x rest stop whole at ended))
 
     by_id : (cluster : Bool) → eqb d.id CLUSTER ≡ cluster → elements bytes place end ≡ gives e (elements bytes e.end end)
     by_id true is =
         let id = eqb-true d.id CLUSTER is in
         let all = h.cluster unknown id in
-        let listed : Lists EndsWithParent d.content o.piece.content all.0 = subst (λ (x : List ℕ). Lists EndsWithParent d.content x all.0) (opened_content bytes place end d order long o) all.1 in
-        with_stop all.0 (end_before TOP_LEVEL d.end all.0) listed (ap (λ (ids : List ℕ). end_before ids d.end all.0) (sym (next_of-cluster d.id id))) all.2
+        let start : e.content ≡ d.content = ap (λ (y : Element). y.content) all.0 in
+        let x = between bytes d.content e.end in
+        let rest = between bytes e.end d.end in
+        let inside : content_of bytes e ≡ x = ap (λ (n : ℕ). between bytes n e.end) start in
+        let front : take (e.end - d.content) (content_of bytes d) ≡ x = take-take (e.end - d.content) (d.end - d.content) (drop d.content bytes) (omega (arith, h.lies)) in
+        let behind : drop (e.end - d.content) (content_of bytes d) ≡ rest = drop-between bytes d.content e.end d.end (omega (arith, start, h.lies)) (omega (arith, h.lies)) in
+        let whole : o.piece.content ≡ x ++ rest = sym content ∙ sym (take-append-drop (e.end - d.content) (content_of bytes d)) ∙ ap (λ (y : List ℕ). y ++ drop (e.end - d.content) (content_of bytes d)) front ∙ ap (λ (y : List ℕ). x ++ y) behind in
+        let few : e.end - d.content ≤ length (content_of bytes d) = omega (arith, ap length content, d_end, h.lies) in
+        let len : length x ≡ e.end - d.content = ap length (sym front) ∙ length-take-le (e.end - d.content) (content_of bytes d) few in
+        let ended : EndsBefore (next_of d.id) d.content x rest = subst (λ (ids : List ℕ). EndsBefore ids d.content x rest) (sym (next_of-cluster d.id id)) (subst (λ (y : List ℕ). EndsBefore TOP_LEVEL d.content y rest) inside all.1) in
+        with_parts x rest e.end whole (omega (arith, len, start, h.lies)) ended all.0
     by_id false other =
-        let all = listed d.content o.piece.content in
         let no_cluster : d.unknown ≡ true → d.id ≡ CLUSTER → ⊥ = λ u id. true≢false (sym (eq-eqb d.id CLUSTER id) ∙ other) in
-        with_stop all.0 d.end all.1 (sym (end_before-none d.end all.0) ∙ ap (λ (ids : List ℕ). end_before ids d.end all.0) (sym (next_of-other d.id other))) (h.other no_cluster)
+        let ended : EndsBefore (next_of d.id) d.content o.piece.content [] = subst (λ (ids : List ℕ). EndsBefore ids d.content o.piece.content []) (sym (next_of-other d.id other)) (ends-last d.content o.piece.content) in
+        with_parts o.piece.content [] d.end (sym (append-nil o.piece.content)) d_end ended (h.other no_cluster)
 
 -- ---- what is answered at a place
 

@@ -4,7 +4,7 @@ use Rattle.std.specs.List.{before_first}
 use Rattle.ebml_core.specs.declared.element.Element.{Element}
 use Rattle.ebml_core.specs.Spelling.{unsigned_of, between}
 use Rattle.ebml_core.specs.Listing.{Listing, ends, breaks, gives, Lists, EndsBeforeNext}
-use Rattle.ebml_core.proofs.Listings.{listed_next}
+use Rattle.ebml_core.proofs.Scans.{listed_next}
 use Rattle.mkv_elements.specs.declared.TheConstants.{CLUSTER, TOP_LEVEL}
 
 -- an element whose content lies before a place
@@ -16,7 +16,7 @@ pub record LiesWithin (end : ℕ) (e : Element) : Type 0 where
 abbrev pub content_of : List ℕ → Element → List ℕ
 content_of bytes e = between bytes e.content e.end
 
--- The elements from which on a Cluster of unknown size can't go on: those that stand beside Clusters. Any other of unknown size ends with its parent.
+-- A Cluster of unknown size ends before the elements that stand beside Clusters; any other of unknown size ends with its parent.
 abbrev pub next_of : ℕ → List ℕ
 next_of id = if id == CLUSTER then TOP_LEVEL else []
 
@@ -24,7 +24,7 @@ next_of id = if id == CLUSTER then TOP_LEVEL else []
 abbrev pub ListsFrom : List ℕ → ℕ → ℕ → Listing → Type 0
 ListsFrom bytes from to listing = Lists (EndsBeforeNext next_of) from (between bytes from to) listing
 
--- the one listing that they have
+-- The one listing that they have; that there is one is proved in `ebml_core`.
 unfoldable pub elements : List ℕ → ℕ → ℕ → Listing
 elements bytes from to = (listed_next next_of from (between bytes from to)).0
 

@@ -1,6 +1,7 @@
 ghost use Rattle.std.specs.Prelude.{◌≡◌, ◌<◌, ◌≤◌, ◌==◌, length, true, IfOk, IfSome};
 ghost use Rattle.std.specs.List.{position_or_len};
-ghost use Rattle.ebml_core.specs.Listing.{Listing, Lists, EndsWithParent, end_before};
+ghost use Rattle.ebml_core.specs.Spelling.{between};
+ghost use Rattle.ebml_core.specs.Listing.{EndsBefore};
 ghost use Rattle.ebml_core.specs.Walking.{LiesAt, place_after, given};
 ghost use Rattle.mkv_read.specs.Elements.{content_of, LiesWithin, elements, first, number_of};
 ghost use Rattle.mkv_read.specs.Tracks.{is_text};
@@ -12,9 +13,8 @@ use mkv_elements::{CLUSTER, TOP_LEVEL};
 /// Clusters, and where there is none, with its Segment (RFC 8794 section 6.2).
 fn ended(bytes: &[u8], element: Element) -> Element
     requires { LiesWithin (length bytes.now) element }
-    ensures cluster { element.unknown ≡ true → element.id ≡ CLUSTER
-        → (behind : Listing) × Lists EndsWithParent element.content (content_of bytes.now element) behind
-        × (result ≡ record element { end = end_before TOP_LEVEL element.end behind }) }
+    ensures cluster { element.unknown ≡ true → element.id ≡ CLUSTER → (result ≡ record element { end = result.end })
+        × EndsBefore TOP_LEVEL element.content (content_of bytes.now result) (between bytes.now result.end element.end) }
     ensures other { (element.unknown ≡ true → element.id ≡ CLUSTER → ⊥) → result ≡ element }
     ensures start { (result.start ≡ element.start) × (result.content ≡ element.content) }
     ensures lies { (result.content ≤ result.end) × (result.end ≤ element.end) }

@@ -6,11 +6,10 @@ use Rattle.ebml_core.specs.declared.vint.Size.TheVariants.{Unknown}
 use Rattle.ebml_core.specs.declared.element.Element.{Element}
 use Rattle.ebml_core.specs.Spelling.{unsigned_of, size_of, IsId, IsSize, Piece, spelling, element_of}
 use Rattle.ebml_core.specs.Listing.{gives, ends, Begins, Lists, EndsBeforeNext}
-use Rattle.ebml_core.proofs.Listings.{listed}
 use Rattle.ebml_core.proofs.Knowns.{piece-begins}
 use Rattle.mkv_elements.specs.declared.TheConstants.{SEGMENT}
 use Rattle.mkv_read.specs.Elements.{next_of, elements, first_where, first}
-use Rattle.mkv_read.proofs.Listing.{end_before-none}
+use Rattle.mkv_read.proofs.Listing.{ends-last}
 use Rattle.mkv_read.specs.Clip.{segment_of, end_or, file_of}
 use Rattle.mkv_write.proofs.Standing.{Stands, Stands-back, elements-stand}
 use Rattle.mkv_write.specs.File.{size, segment_head}
@@ -53,15 +52,13 @@ begins-segment start body =
     let p = segment_piece body in
     let text = segment_head ++ body in
     let regrouped : text ≡ spelling p = append_assoc (bytes_high_first 4 SEGMENT) (size 8 (2 ^ 56 - 1)) body in
-    let behind = listed (start + 12) (body ++ []) in
-    let len : start + length text ≡ start + 12 + length (body ++ []) = omega (arith, length-append segment_head body, length-segment_head, ap length (append-nil body)) in
     record {
       piece = p;
       spelled = regrouped ∙ sym (append-nil (spelling p));
       is = inr (
         record { id = id-segment; size = size-segment },
         ap (λ (n : ℕ). record { id = SEGMENT; start = start; content = start + n; end = start + length text; unknown = true }) (sym octets-segment) ∙ ap (λ (t : List ℕ). record { id = SEGMENT; start = start; content = start + (length (bytes_high_first 4 SEGMENT) + length (size 8 (2 ^ 56 - 1))); end = start + length t; unknown = true }) regrouped,
-        (behind.0, behind.1, len ∙ sym (end_before-none (start + 12 + length (body ++ [])) behind.0)),
+        ends-last (start + 12) body,
       );
     }
 

@@ -1,5 +1,6 @@
 use Rattle.ebml_core.specs.Listing.{EndsWithParent, EndsBeforeNext}
-use Rattle.ebml_core.proofs.Listings.{lists-one, exact-parent, exact-next, listed, listed_next}
+use Rattle.ebml_core.proofs.Listings.{lists-one, exact-parent, listed}
+use Rattle.ebml_core.proofs.Scans.{exact-next, listed_next}
 use Rattle.ebml_core.proofs.laws.one_listing.Goals as goal
 
 pub returns-clause-some : goal.returns-clause-some

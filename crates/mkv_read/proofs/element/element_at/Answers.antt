@@ -21,7 +21,7 @@ returns-in-Ok-Some-clause-exact c =
     let later = listed c.next.new.self.place (ahead c.next.new.self) in
     let there : HasAhead c.over-walker.result (gives d later.0) = rw (c.in-Ok-Some.is, c.in-Ok-Some.field-0-is) at (c.next.ensures.listed later.0 later.1) in
     let begins : HasAhead (stood c.args.bytes.now c.args.place c.args.end) (gives d later.0) = subst (λ (p : Position). HasAhead p (gives d later.0)) c.over-walker.ensures there in
-    ended-first c.args.bytes.now c.args.place c.args.end d c.ended.result begins.0 c.requires.order c.requires.within begins.1 (record { cluster = c.ended.ensures.cluster; other = c.ended.ensures.other })
+    ended-first c.args.bytes.now c.args.place c.args.end d c.ended.result begins.0 c.requires.order c.requires.within begins.1 (record { cluster = c.ended.ensures.cluster; other = c.ended.ensures.other; lies = c.ended.ensures.lies })
 
 pub returns-in-Err-clause-exact : goal.returns-in-Err-clause-exact
 returns-in-Err-clause-exact c =
