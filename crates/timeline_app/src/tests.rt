@@ -1,6 +1,10 @@
 //! The program over objects in memory.
 
 use crate::run::run_alone;
+use mkv_elements::{
+    CLUSTER, CODEC_ID, CODEC_PRIVATE, DOC_TYPE, EBML, PIXEL_HEIGHT, PIXEL_WIDTH, SEGMENT,
+    SIMPLE_BLOCK, TIMESTAMP, TRACK_ENTRY, TRACK_NUMBER, TRACK_TYPE, TRACKS, VIDEO,
+};
 use std::alloc::{AllocError, Global};
 use std::test::Fail;
 use tl_ports::{MemSink, MemStore, MemVault};
@@ -11,9 +15,19 @@ const PACKET: [u8; 5] = [0xFF, 0xFF, 0x00, 0x00, 0x02];
 /// A configuration record; it isn't examined yet.
 const RECORD: [u8; 7] = [1, 2, 3, 4, 5, 6, 7];
 
+/// Appends an id. No octet of those that are put here is 0.
+fn put_id(out: &mut Vec<u8>, id: u32) -> Result<(), AllocError> {
+    for octet in id.to_be_bytes() {
+        if octet != 0 {
+            out.push(octet)?;
+        }
+    }
+    Ok(())
+}
+
 /// Appends an element with a size of 8 octets.
-fn put(out: &mut Vec<u8>, id: &[u8], content: &[u8]) -> Result<(), AllocError> {
-    out.extend_from_slice(id)?;
+fn put(out: &mut Vec<u8>, id: u32, content: &[u8]) -> Result<(), AllocError> {
+    put_id(out, id)?;
     out.push(1)?;
     let size = (content.len() as u64).to_be_bytes();
     out.extend_from_slice(&size[1..])?;
@@ -24,16 +38,16 @@ fn put(out: &mut Vec<u8>, id: &[u8], content: &[u8]) -> Result<(), AllocError> {
 /// The one track, of 2x2 pictures.
 fn tracks(alloc: Global) -> Result<Vec<u8>, AllocError> {
     let mut video = Vec::new(alloc);
-    put(&mut video, &[0xB0], &[2])?;
-    put(&mut video, &[0xBA], &[2])?;
+    put(&mut video, PIXEL_WIDTH, &[2])?;
+    put(&mut video, PIXEL_HEIGHT, &[2])?;
     let mut entry = Vec::new(alloc);
-    put(&mut entry, &[0xD7], &[1])?;
-    put(&mut entry, &[0x83], &[1])?;
-    put(&mut entry, &[0x86], b"V_FFV1")?;
-    put(&mut entry, &[0x63, 0xA2], &RECORD)?;
-    put(&mut entry, &[0xE0], &video)?;
+    put(&mut entry, TRACK_NUMBER, &[1])?;
+    put(&mut entry, TRACK_TYPE, &[1])?;
+    put(&mut entry, CODEC_ID, b"V_FFV1")?;
+    put(&mut entry, CODEC_PRIVATE, &RECORD)?;
+    put(&mut entry, VIDEO, &video)?;
     let mut tracks = Vec::new(alloc);
-    put(&mut tracks, &[0xAE], &entry)?;
+    put(&mut tracks, TRACK_ENTRY, &entry)?;
     Ok(tracks)
 }
 
@@ -42,33 +56,33 @@ fn put_block(alloc: Global, out: &mut Vec<u8>) -> Result<(), AllocError> {
     let mut block = Vec::new(alloc);
     block.extend_from_slice(&[0x81, 0, 0, 0x80])?;
     block.extend_from_slice(&PACKET)?;
-    put(out, &[0xA3], &block)?;
+    put(out, SIMPLE_BLOCK, &block)?;
     Ok(())
 }
 
 /// A file of this DocType, over a Segment of this content.
 fn file_of(alloc: Global, doc_type: &[u8], content: &[u8]) -> Result<Vec<u8>, AllocError> {
     let mut header = Vec::new(alloc);
-    put(&mut header, &[0x42, 0x82], doc_type)?;
+    put(&mut header, DOC_TYPE, doc_type)?;
     let mut file = Vec::new(alloc);
-    put(&mut file, &[0x1A, 0x45, 0xDF, 0xA3], &header)?;
-    put(&mut file, &[0x18, 0x53, 0x80, 0x67], content)?;
+    put(&mut file, EBML, &header)?;
+    put(&mut file, SEGMENT, content)?;
     Ok(file)
 }
 
 /// A file of so many packets, each a Cluster of its own, 40 ms apart.
 fn clip(alloc: Global, doc_type: &[u8], frames: u16) -> Result<Vec<u8>, AllocError> {
     let mut content = Vec::new(alloc);
-    put(&mut content, &[0x16, 0x54, 0xAE, 0x6B], &tracks(alloc)?)?;
+    put(&mut content, TRACKS, &tracks(alloc)?)?;
     for frame in 0..frames {
         let mut cluster = Vec::new(alloc);
         put(
             &mut cluster,
-            &[0xE7],
+            TIMESTAMP,
             &(40 * u32::from(frame)).to_be_bytes(),
         )?;
         put_block(alloc, &mut cluster)?;
-        put(&mut content, &[0x1F, 0x43, 0xB6, 0x75], &cluster)?;
+        put(&mut content, CLUSTER, &cluster)?;
     }
     file_of(alloc, doc_type, &content)
 }
@@ -280,9 +294,10 @@ fn store_of(alloc: Global, case: &Case) -> Result<MemStore, AllocError> {
 /// A clip of three packets, whose Cluster has an unknown size.
 fn unknown_cluster(alloc: Global) -> Result<Vec<u8>, AllocError> {
     let mut content = Vec::new(alloc);
-    put(&mut content, &[0x16, 0x54, 0xAE, 0x6B], &tracks(alloc)?)?;
-    content.extend_from_slice(&[0x1F, 0x43, 0xB6, 0x75, 0xFF])?;
-    put(&mut content, &[0xE7], &[0])?;
+    put(&mut content, TRACKS, &tracks(alloc)?)?;
+    put_id(&mut content, CLUSTER)?;
+    content.push(0xFF)?;
+    put(&mut content, TIMESTAMP, &[0])?;
     for _ in 0..3 {
         put_block(alloc, &mut content)?;
     }
