@@ -4,7 +4,7 @@ use Rattle.std.proofs.lemmas.Bool.{true≢false}
 use Rattle.std.proofs.lemmas.List.{append-nil, length-append, take_at, drop_at}
 use Rattle.ebml_core.specs.declared.element.Element.{Element}
 use Rattle.ebml_core.specs.Spelling.{Piece, IsPiece, spelling, element_of}
-use Rattle.ebml_core.specs.Listing.{Listing, ends, breaks, gives, IsOpenPiece, open_element, Begins, Lists, EndsWithParent, is_among, ListsNone, IsWhole, BeginsWithOne, EndsBefore, EndsBeforeNext}
+use Rattle.ebml_core.specs.Listing.{Listing, ends, breaks, gives, IsOpenPiece, open_element, Begins, Lists, EndsWithParent, is_among, ListsNone, AreKnown, BeginsWithOne, EndsBefore, EndsBeforeNext}
 use Rattle.ebml_core.proofs.Listings.{LiesFirst, begins-lies, IsExact, exact-parent, lists-one, HasEnds, listed, listed_upto}
 
 -- where the first element of one of these ids starts; where there is none, the end
@@ -106,7 +106,7 @@ pub StopsAt : List ℕ → ℕ → List ℕ → List ℕ → Type 0
 StopsAt ids place content rest = (behind : Listing) × Lists EndsWithParent place (content ++ rest) behind × (place + length content ≡ end_before ids (place + length (content ++ rest)) behind)
 
 -- whole elements, and behind them one of these ids
-stops-behind : (ids : List ℕ) (inside : Listing) (place : ℕ) (content rest : List ℕ) → Lists EndsWithParent place content inside → ListsNone ids inside → IsWhole inside → BeginsWithOne ids (place + length content) rest → StopsAt ids place content rest
+stops-behind : (ids : List ℕ) (inside : Listing) (place : ℕ) (content rest : List ℕ) → Lists EndsWithParent place content inside → ListsNone ids inside → AreKnown inside → BeginsWithOne ids (place + length content) rest → StopsAt ids place content rest
 unfolding StopsAt
 stops-behind ids ends place content rest h none whole (e, r, b, here) =
     let start : place + length content ≡ place = omega (arith, ap length h) in

@@ -51,21 +51,21 @@ ListsNone ids ends = Unit {0}
 ListsNone ids (breaks at) = Unit {0}
 ListsNone ids (gives e later) = (is_among ids e ≡ false) × ListsNone ids later
 
--- Only elements of known size are listed, and nothing more.
-abbrev pub IsWhole : Listing → Type 0
-IsWhole ends = Unit {0}
-IsWhole (breaks at) = ⊥
-IsWhole (gives e later) = (e.unknown ≡ false) × IsWhole later
+-- Elements of known size are listed, and nothing more.
+abbrev pub AreKnown : Listing → Type 0
+AreKnown ends = Unit {0}
+AreKnown (breaks at) = ⊥
+AreKnown (gives e later) = (e.unknown ≡ false) × AreKnown later
 
 -- A text that lies at a place begins with an element of one of these ids.
 abbrev pub BeginsWithOne : List ℕ → ℕ → List ℕ → Type 0
 BeginsWithOne ids place text = (e : Element) × (rest : List ℕ) × Begins EndsWithParent place text e rest × (is_among ids e ≡ true)
 
--- A content that lies at a place ends before elements of these ids, with this rest behind it. It lists none of them. And nothing stands behind it, or it is whole and one of them does.
+-- A content that lies at a place ends before elements of these ids, with this rest behind it: it lists none of them; and nothing stands behind it, or it lists elements of known size and nothing more, and the rest begins with one of them.
 abbrev pub EndsBefore : List ℕ → ℕ → List ℕ → List ℕ → Type 0
 EndsBefore ids place content rest =
-    (inside : Listing) × Lists EndsWithParent place content inside × ListsNone ids inside × ((rest ≡ []) ⊎ (IsWhole inside × BeginsWithOne ids (place + length content) rest))
+    (inside : Listing) × Lists EndsWithParent place content inside × ListsNone ids inside × ((rest ≡ []) ⊎ (AreKnown inside × BeginsWithOne ids (place + length content) rest))
 
--- An element of unknown size ends before the next that may not stand in it (RFC 8794 section 6.2). `ids` tells of each id which these are.
+-- An element of unknown size ends before the next that may not stand in it, after RFC 8794 section 6.2. `ids` tells of each id which these are; whoever names them may leave out some of the standard's.
 abbrev pub EndsBeforeNext : (ℕ → List ℕ) → Element → List ℕ → List ℕ → Type 0
 EndsBeforeNext ids e content rest = EndsBefore (ids e.id) e.content content rest

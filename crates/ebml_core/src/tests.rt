@@ -69,11 +69,9 @@ fn walks(rt: HostRuntime) {
 
 #[test]
 fn ends_of_unknown_sizes(rt: HostRuntime) {
-    // A Void, a SimpleBlock of one byte, a Cluster of unknown size with a Void in it.
-    let bytes = [
-        0xEC, 0x80, 0xA3, 0x81, 7, 0x1F, 0x43, 0xB6, 0x75, 0xFF, 0xEC, 0x80,
-    ];
-    assert!(rt; Walker::over(&bytes, 0, 12).end_before(&[0x1254_C367, 0x1F43_B675]) == 5);
-    assert!(rt; Walker::over(&bytes, 0, 12).end_before(&[0x1254_C367]) == 12);
-    assert!(rt; Walker::over(&bytes, 0, 4).end_before(&[0x1F43_B675]) == 4);
+    // An element of no bytes, one of one byte, and one of unknown size with the first once more in it.
+    let bytes = [0x81, 0x80, 0x82, 0x81, 7, 0x40, 0x03, 0xFF, 0x81, 0x80];
+    assert!(rt; Walker::over(&bytes, 0, 10).end_before(&[0x84, 0x4003]) == 5);
+    assert!(rt; Walker::over(&bytes, 0, 10).end_before(&[0x84]) == 10);
+    assert!(rt; Walker::over(&bytes, 0, 4).end_before(&[0x4003]) == 4);
 }

@@ -122,9 +122,9 @@ impl<'a> Walker<'a> {
         Ok(Some(element))
     }
 
-    /// Where the first element of one of these ids starts, or the walk's end where none comes before that
-    /// and before the first faulty element: so an element of unknown size ends whose content is walked
-    /// (RFC 8794 section 6.2).
+    /// Where an element of unknown size ends whose content is walked, by the ids of the elements that may not
+    /// stand in it (RFC 8794 section 6.2): before the first of these that the walk gives. Where it gives none
+    /// before its end, its first fault or an element of unknown size, that is the walk's end.
     pub fn end_before(mut self, ids: &[u32]) -> u64
         ensures exact { EndsBefore ids.now self.entry.place (between self.entry.bytes self.entry.place result) (between self.entry.bytes result self.entry.end) }
         ensures within { (self.entry.place ≤ result) × (result ≤ self.entry.end) }

@@ -28,10 +28,10 @@ rows =
     row 0xA3 0x1F43B675 Block true ∷  -- SimpleBlock
     row 0xA0 0x1F43B675 Master true ∷  -- BlockGroup
     row 0xA1 0xA0 Block true ∷  -- Block
-    row 0x4286 0x1A45DFA3 Unsigned false ∷  -- EbmlVersion
-    row 0x42F7 0x1A45DFA3 Unsigned false ∷  -- EbmlReadVersion
-    row 0x42F2 0x1A45DFA3 Unsigned false ∷  -- EbmlMaxIDLength
-    row 0x42F3 0x1A45DFA3 Unsigned false ∷  -- EbmlMaxSizeLength
+    row 0x4286 0x1A45DFA3 Unsigned false ∷  -- EBMLVersion
+    row 0x42F7 0x1A45DFA3 Unsigned false ∷  -- EBMLReadVersion
+    row 0x42F2 0x1A45DFA3 Unsigned false ∷  -- EBMLMaxIDLength
+    row 0x42F3 0x1A45DFA3 Unsigned false ∷  -- EBMLMaxSizeLength
     row 0x4287 0x1A45DFA3 Unsigned false ∷  -- DocTypeVersion
     row 0x4285 0x1A45DFA3 Unsigned false ∷  -- DocTypeReadVersion
     row 0x114D9B74 0x18538067 Master false ∷  -- SeekHead

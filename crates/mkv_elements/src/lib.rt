@@ -109,13 +109,5 @@ pub const TOP_LEVEL: [u32; 8] = [
     TAGS,
 ];
 
-/// Whether an element is a child of the Segment (RFC 9559 section 5.1), so that a Cluster of unknown
-/// size ends before it (RFC 8794 section 6.2).
-pub fn is_top_level(id: u32) -> bool
-    ensures { IsTrue result ↔ Contains TOP_LEVEL id }
-{
-    TOP_LEVEL.contains(&id)
-}
-
 #[cfg(test)]
 mod tests;

@@ -7,7 +7,7 @@ fn rows_of_the_table(rt: HostRuntime) {
         let want = if row.read { Some(row.kind) } else { None };
         assert!(rt; kind_in(row.parent, row.id) == want, "{:X}", row.id);
         if row.parent == SEGMENT {
-            assert!(rt; is_top_level(row.id), "{:X}", row.id);
+            assert!(rt; TOP_LEVEL.contains(&row.id), "{:X}", row.id);
         }
     }
     assert!(rt; kind_in(SEGMENT, TIMESTAMP).is_none());

@@ -15,7 +15,7 @@ use Rattle.mkv_read.specs.Elements.{elements, elements_in, first}
 use Rattle.mkv_read.specs.Faults.{fault_in}
 use Rattle.mkv_read.specs.Blocks.{blocks_in, fault_after}
 use Rattle.mkv_read.specs.Tracks.{is_text, track_of}
-use Rattle.mkv_read.specs.Limits.{max_frames, depth}
+use Rattle.mkv_read.specs.Limits.{max_side, max_private, max_frames, depth}
 
 -- the Segment that is read
 unfoldable pub segment_of : List ℕ → Option Element
@@ -35,7 +35,7 @@ begins_with id ends = false
 begins_with id (breaks at) = false
 begins_with id (gives e later) = e.id == id
 
--- The place of the first faulty element. The file's first element is its EBML header.
+-- The place of the first faulty element. That is 0 where the file doesn't begin with an EBML header.
 unfoldable pub fault_of : List ℕ → Option ℕ
 fault_of bytes =
     if begins_with EBML (elements bytes 0 (length bytes)) then fault_in depth bytes FILE (file_of bytes) else Some 0
@@ -68,12 +68,12 @@ require holds fault = if holds then Ok tt else Err fault
 
 -- a clip within the limits: the size of its pictures, the bytes of its record, and the number of its packets
 pub record IsWithinLimits (clip : ClipIndex) : Type 0 where
-  pub width : (1 ≤ clip.width) × (clip.width ≤ 8192)
-  pub height : (1 ≤ clip.height) × (clip.height ≤ 8192)
-  pub private : (1 ≤ clip.private.len) × (clip.private.len ≤ 65536)
-  pub frames : (1 ≤ length clip.packets) × (length clip.packets ≤ 1000000)
+  pub width : (1 ≤ clip.width) × (clip.width ≤ max_side)
+  pub height : (1 ≤ clip.height) × (clip.height ≤ max_side)
+  pub private : (1 ≤ clip.private.len) × (clip.private.len ≤ max_private)
+  pub frames : (1 ≤ length clip.packets) × (length clip.packets ≤ max_frames)
 
--- A sound file of Matroska, its track, and that track's blocks.
+-- The clip of a file, or its first fault: of an element, of the DocType, of the track, of the track's blocks.
 unfoldable pub clip_of : List ℕ → Result ClipIndex ClipFault
 clip_of bytes = do
   sound ← unless_faulty (fault_of bytes)

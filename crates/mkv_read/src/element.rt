@@ -9,8 +9,8 @@ ghost use Rattle.mkv_read.specs.Tracks.{is_text};
 use ebml_core::{EbmlFault, Element, Walker, unsigned};
 use mkv_elements::{CLUSTER, TOP_LEVEL};
 
-/// The element with its end: a Cluster of unknown size ends before the first element that stands beside
-/// Clusters, and where there is none, with its Segment (RFC 8794 section 6.2).
+/// The element with its end: a Cluster of unknown size ends before the first element behind its header that
+/// stands beside Clusters, and where none is read there, with its parent (after RFC 8794 section 6.2).
 fn ended(bytes: &[u8], element: Element) -> Element
     requires { LiesWithin (length bytes.now) element }
     ensures cluster { element.unknown ≡ true → element.id ≡ CLUSTER → (result ≡ record element { end = result.end })
