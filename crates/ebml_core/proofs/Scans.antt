@@ -144,7 +144,7 @@ stops-at ids place content rest (inside, listed, none, inr one) = stops-behind i
 
 -- ---- one end, and always one
 
-exact-before : (ids : List ℕ) (place : ℕ) (x y v w : List ℕ) → x ++ y ≡ v ++ w → EndsBefore ids place x y → EndsBefore ids place v w → length x ≡ length v
+pub exact-before : (ids : List ℕ) (place : ℕ) (x y v w : List ℕ) → x ++ y ≡ v ++ w → EndsBefore ids place x y → EndsBefore ids place v w → length x ≡ length v
 unfolding StopsAt
 exact-before ids place x y v w same first second =
     let a = stops-at ids place x y first in

@@ -1,10 +1,10 @@
 //! What holds of elements and listings, whatever the bytes are.
 
-ghost use Rattle.std.specs.Prelude.{◌≡◌, ℕ, List, ◌++◌, false};
+ghost use Rattle.std.specs.Prelude.{◌≡◌, ℕ, List, ◌++◌, length, false};
 ghost use Rattle.std.specs.List.{AllByRecursion};
 ghost use Rattle.ebml_core.specs.declared.element.Element.{Element};
 ghost use Rattle.ebml_core.specs.Spelling.{Piece, IsPiece, Spells, Holds, spelling, between};
-ghost use Rattle.ebml_core.specs.Listing.{Listing, whole, Lists, EndsWithParent, EndsBeforeNext};
+ghost use Rattle.ebml_core.specs.Listing.{Listing, whole, Lists, EndsWithParent, EndsBefore, EndsBeforeNext};
 
 /// Bytes spell elements in one way at most, and no element's spelling begins another's.
 pub fn one_reading()
@@ -21,6 +21,13 @@ pub fn one_listing()
     ensures some_before { (ids : ℕ → List ℕ) (place : ℕ) (text : List ℕ) → (listing : Listing) × Lists (EndsBeforeNext ids) place text listing }
     ensures one_before { (ids : ℕ → List ℕ) (place : ℕ) (text : List ℕ) (a b : Listing)
         → Lists (EndsBeforeNext ids) place text a → Lists (EndsBeforeNext ids) place text b → a ≡ b }
+{}
+
+/// Each text has one end before the elements of some ids, wherever it lies: so `Walker::end_before` has one answer.
+pub fn one_end()
+    ensures some { (ids : List ℕ) (place : ℕ) (text : List ℕ) → (content rest : List ℕ) × (text ≡ content ++ rest) × EndsBefore ids place content rest }
+    ensures one { (ids : List ℕ) (place : ℕ) (x y v w : List ℕ) → x ++ y ≡ v ++ w
+        → EndsBefore ids place x y → EndsBefore ids place v w → length x ≡ length v }
 {}
 
 /// Elements of known size are listed, and nothing more, exactly where the bytes spell them, however those of unknown
