@@ -1,7 +1,8 @@
 //! A vault over a folder.
 
-ghost use Rattle.std.specs.Prelude.{◌≡◌, ◌≤◌, [], None};
+ghost use Rattle.std.specs.Prelude.{◌≡◌, ◌≤◌, false, [], None};
 ghost use Rattle.std.specs.Option.{option_map};
+ghost use Rattle.std.proofs.lemmas.Bool.{false≢true};
 ghost use Rattle.tl_ports.specs.Outside.{Rose};
 ghost use Rattle.tl_ports.specs.FaultPlan.{one_more};
 
@@ -32,8 +33,8 @@ struct Begun<F> {
 impl<'a, R: Files + AllocGlobal> FolderVault<'a, R> {
     /// A vault with no file begun, and no faults yet.
     pub fn start(rt: &'a R) -> FolderVault<'a, R>
-        ensures begun { ⟦<FolderVault<'a, R> as Vault>⟧.begun result ≡ None }
-        ensures faults { ⟦<FolderVault<'a, R> as Vault>⟧.faults result ≡ 0 }
+        ensures begun { (⟦<FolderVault<'a, R> as Vault>⟧.seen result).begun ≡ None }
+        ensures faults { (⟦<FolderVault<'a, R> as Vault>⟧.seen result).faults ≡ 0 }
     {
         FolderVault {
             rt,
@@ -56,17 +57,16 @@ impl<'a, R: Files + AllocGlobal> FolderVault<'a, R> {
 }
 
 impl<R: Files + AllocGlobal> Vault for FolderVault<'_, R> {
-    ghost tells = { ⊥ };
+    ghost tells = { false };
 
-    ghost file = { λ vault name. None };
+    ghost seen = { λ vault. record {
+      file = λ name. None;
+      begun = option_map (λ begun. begun.name.items) vault.begun;
+      held = [];
+      faults = vault.faults;
+    } };
 
-    ghost begun = { λ vault. option_map (λ begun. begun.name.items) vault.begun };
-
-    ghost held = { λ vault. [] };
-
-    ghost faults = { λ vault. vault.faults };
-
-    ghost held_is = { λ told vault name begun. absurd told };
+    ghost held_is = { λ told. absurd (false≢true told) };
 
     /// Creates the file, or empties one that is there. `Failed` where the system does neither.
     fn begin(&mut self, name: &str) -> Result<(), PutFault> {
