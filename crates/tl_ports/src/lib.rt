@@ -14,6 +14,7 @@ mod mem_sink;
 mod mem_store;
 mod mem_vault;
 mod out_sink;
+mod output;
 mod ports;
 mod stream;
 

@@ -27,6 +27,7 @@ fn save<V: Vault>(vault: &mut V, name: &str, first: &[u8], second: &[u8]) -> Res
 }
 
 /// A fetch: the name, the limit, the answer, and what the buffer gains.
+#[derive(Drop)]
 struct Fetch<'a>(&'a str, u64, Result<(), FetchFault>, &'a [u8]);
 
 /// Fetches behind the byte 9, and compares each answer and the buffer.
