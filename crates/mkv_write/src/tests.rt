@@ -1,6 +1,7 @@
 //! The written file, byte by byte where it matters.
 
-ghost use Rattle.std.specs.Prelude.{◌≡◌, ◌+◌, ◌≤◌, ◌^◌, length, None, IsSome, IfOk, OnOk};
+ghost use Rattle.std.specs.Prelude.{IsTrue, ◌≡◌, ◌+◌, ◌≤◌, ◌^◌, length, None, IsSome, IfOk, OnOk};
+ghost use Rattle.tl_limits.specs.Limits.{IsRecordLength, IsRate};
 ghost use Rattle.mkv_write.specs.Writing.{put_of};
 
 use crate::{MkvWriter, WriteFault};
@@ -24,11 +25,11 @@ fn begin<V: Vault>(
     private: &[u8],
     rate: u32,
 ) -> Result<MkvWriter, WriteFault>
-    requires begun { V.begun vault.old ≡ None }
-    requires private { (1 ≤ length private.now) × (length private.now ≤ 65536) }
-    requires rate { (1 ≤ rate) × (rate ≤ 240) }
-    ensures begun { OnOk result (IsSome (V.begun vault.new)) }
-    ensures held { IfOk result (λ writer. V.tells → V.held vault.new ≡ put_of writer) }
+    requires begun { (V.seen vault.old).begun ≡ None }
+    requires private { IsRecordLength (length private.now) }
+    requires rate { IsRate rate }
+    ensures begun { OnOk result (IsSome (V.seen vault.new).begun) }
+    ensures held { IfOk result (λ writer. IsTrue V.tells → (V.seen vault.new).held ≡ put_of writer) }
     ensures packets { IfOk result (λ writer. length writer.packets ≡ 0) }
 {
     vault.begin("o")?;
@@ -38,11 +39,11 @@ fn begin<V: Vault>(
 
 /// Gives the packet so many times.
 fn give<V: Vault>(writer: &mut MkvWriter, vault: &mut V, count: u32) -> Result<(), WriteFault>
-    requires begun { IsSome (V.begun vault.old) }
-    requires held { V.tells → V.held vault.old ≡ put_of writer.old }
+    requires begun { IsSome (V.seen vault.old).begun }
+    requires held { IsTrue V.tells → (V.seen vault.old).held ≡ put_of writer.old }
     requires room { length writer.old.packets + count ≤ 1000000 }
-    ensures begun { OnOk result (IsSome (V.begun vault.new)) }
-    ensures held { OnOk result (V.tells → V.held vault.new ≡ put_of writer.new) }
+    ensures begun { OnOk result (IsSome (V.seen vault.new).begun) }
+    ensures held { OnOk result (IsTrue V.tells → (V.seen vault.new).held ≡ put_of writer.new) }
     ensures packets { OnOk result (length writer.new.packets ≡ length writer.old.packets + count) }
 {
     for _ in 0..count {
@@ -58,8 +59,8 @@ fn written(
     rate: u32,
     frames: u32,
 ) -> Result<Vec<u8>, Fail>
-    requires private { (1 ≤ length private.now) × (length private.now ≤ 65536) }
-    requires rate { (1 ≤ rate) × (rate ≤ 240) }
+    requires private { IsRecordLength (length private.now) }
+    requires rate { IsRate rate }
     requires frames { (1 ≤ frames) × (frames ≤ 1000) }
 {
     let alloc = rt.alloc();
