@@ -6,6 +6,8 @@ use crate::{
     CleanStore, CleanVault, FetchFault, FileSink, FolderStore, FolderVault, Gate, MemSink,
     MemStore, MemVault, OpenGate, OutSink, Point, PutFault, Sink, Store, Vault,
 };
+use std::fs;
+use std::os::unix::fs::symlink;
 use std::process::Abort;
 use std::test::Fail;
 
@@ -119,39 +121,120 @@ fn sink_in_memory(rt: HostRuntime) -> Result<(), Fail> {
     Ok(())
 }
 
+/// Makes a folder for one test, in the place of one that is there.
+fn make_folder(rt: &HostRuntime, name: &str) -> Result<(), Fail> {
+    let _ = fs::remove_dir_all(rt, name);
+    fs::create_dir(rt, name)?;
+    Ok(())
+}
+
 #[rattlefmt::skip]
 #[test]
 fn folder(rt: HostRuntime) -> Result<(), Fail> {
     let alloc = rt.alloc();
+    make_folder(&rt, "folder")?;
     // More than one read.
     let large = vec![in alloc; 5u8; 600_000]?;
     let mut vault = FolderVault::start(&rt);
-    assert!(rt; save(&mut vault, "a", &[1; 40], &[2]) == Ok(()));
-    assert!(rt; save(&mut vault, "a", &[1, 2], &[3]) == Ok(()));
-    assert!(rt; save(&mut vault, "./large", large.as_slice(), &[]) == Ok(()));
-    assert!(rt; save(&mut vault, "none/a", &[], &[]) == Err(PutFault::Failed));
+    assert!(rt; save(&mut vault, "folder/a", &[1; 40], &[2]) == Ok(()));
+    assert!(rt; save(&mut vault, "folder/a", &[1, 2], &[3]) == Ok(()));
+    assert!(rt; save(&mut vault, "./folder/large", large.as_slice(), &[]) == Ok(()));
+    assert!(rt; save(&mut vault, "folder/none/a", &[], &[]) == Err(PutFault::Failed));
     is_sent(&vault);
     let mut store = FolderStore::start(&rt);
     fetches(&rt, &mut store, &[
-        Fetch("a", 3, Ok(()), &[1, 2, 3]),
-        Fetch("large", u64::MAX, Ok(()), large.as_slice()),
-        Fetch("a", 2, TOO_LARGE, &[]),
-        Fetch("b", 3, MISSING, &[]),
-        Fetch(".", 3, FAILED, &[]),
+        Fetch("folder/a", 3, Ok(()), &[1, 2, 3]),
+        Fetch("folder/large", u64::MAX, Ok(()), large.as_slice()),
+        Fetch("folder/a", 2, TOO_LARGE, &[]),
+        Fetch("folder/b", 3, MISSING, &[]),
+        Fetch("folder", 3, FAILED, &[]),
     ])?;
     is_sent(&store);
+    fs::remove_dir_all(&rt, "folder")?;
+    Ok(())
+}
+
+/// Saves the bytes 1, 2, 3 under each name, and compares each answer.
+fn saves<V: Vault>(rt: &impl Abort, vault: &mut V, rows: &[(&str, Result<(), PutFault>)])
+    requires { (V.seen vault.old).begun ≡ None }
+{
+    for (name, answer) in rows {
+        assert!(rt;
+            save(vault, name, &[1, 2], &[3]) == *answer,
+            "the answer for {name}"
+        );
+    }
+}
+
+/// Files, links, a folder, devices and parts that are there before.
+#[rattlefmt::skip]
+fn lay(rt: &HostRuntime) -> Result<(), Fail> {
+    make_folder(rt, "laid")?;
+    fs::create_dir(rt, "laid/folder")?;
+    for name in ["laid/first", "laid/second", "laid/third", "laid/left.part"] {
+        fs::write(rt, name, b"old")?;
+    }
+    symlink(rt, "first", "laid/link")?;
+    fs::hard_link(rt, "laid/second", "laid/hard")?;
+    symlink(rt, "nowhere", "laid/dangling")?;
+    symlink(rt, "third", "laid/linked.part")?;
+    symlink(rt, "/dev/full", "laid/full")?;
+    Ok(())
+}
+
+#[rattlefmt::skip]
+#[test]
+fn replaced(rt: HostRuntime) -> Result<(), Fail> {
+    lay(&rt)?;
+    let mut vault = FolderVault::start(&rt);
+    saves(&rt, &mut vault, &[
+        ("laid/link", Ok(())),
+        ("laid/hard", Ok(())),
+        ("laid/dangling", Ok(())),
+        ("laid/left", Ok(())),
+        ("laid/linked", Ok(())),
+        ("laid/folder", Err(PutFault::Failed)),
+        ("laid/full", Err(PutFault::Failed)),
+        ("/dev/null", Ok(())),
+    ]);
+    let mut store = FolderStore::start(&rt);
+    fetches(&rt, &mut store, &[
+        Fetch("laid/link", 9, Ok(()), &[1, 2, 3]),
+        Fetch("laid/hard", 9, Ok(()), &[1, 2, 3]),
+        Fetch("laid/dangling", 9, Ok(()), &[1, 2, 3]),
+        Fetch("laid/left", 9, Ok(()), &[1, 2, 3]),
+        Fetch("laid/linked", 9, Ok(()), &[1, 2, 3]),
+        // What the links pointed to.
+        Fetch("laid/first", 9, Ok(()), b"old"),
+        Fetch("laid/second", 9, Ok(()), b"old"),
+        Fetch("laid/third", 9, Ok(()), b"old"),
+        Fetch("laid/nowhere", 9, MISSING, &[]),
+        // No part is left.
+        Fetch("laid/left.part", 9, MISSING, &[]),
+        Fetch("laid/linked.part", 9, MISSING, &[]),
+        Fetch("laid/folder.part", 9, MISSING, &[]),
+        Fetch("laid/full.part", 9, MISSING, &[]),
+    ])?;
+    assert!(rt; fs::symlink_metadata(&rt, "laid/full")?.is_symlink());
+    fs::remove_dir_all(&rt, "laid")?;
     Ok(())
 }
 
 #[test]
 fn file_sink(rt: HostRuntime) -> Result<(), Fail> {
-    let mut sink = FileSink::start(&rt, String::from_str(rt.alloc(), "out")?);
+    make_folder(&rt, "sink")?;
+    let mut sink = FileSink::start(&rt, String::from_str(rt.alloc(), "sink/out")?);
     puts(&rt, &mut sink, Ok(()));
     is_sent(&sink);
     let mut store = FolderStore::start(&rt);
-    fetches(&rt, &mut store, &[Fetch("out", 9, Ok(()), b"onetwosix")])?;
-    let mut nowhere = FileSink::start(&rt, String::from_str(rt.alloc(), "none/out")?);
+    fetches(
+        &rt,
+        &mut store,
+        &[Fetch("sink/out", 9, Ok(()), b"onetwosix")],
+    )?;
+    let mut nowhere = FileSink::start(&rt, String::from_str(rt.alloc(), "sink/none/out")?);
     assert!(rt; nowhere.put(&[]) == Err(PutFault::Failed));
+    fs::remove_dir_all(&rt, "sink")?;
     Ok(())
 }
 

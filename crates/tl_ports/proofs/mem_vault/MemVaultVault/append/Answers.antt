@@ -1,6 +1,6 @@
 use Rattle.std.proofs.Common.{rules, slice_set}
 use Rattle.tl_ports.specs.FaultPlan.{FailsNext, PutsByPlan}
-use Rattle.tl_ports.specs.FileList.{latest_bytes, vault_of}
+use Rattle.tl_ports.specs.FileList.{vault_of}
 use Rattle.tl_ports.specs.Seen.{VaultSeen}
 use Rattle.tl_ports.proofs.PlanLemmas.{Adds-by_plan}
 use Rattle.tl_ports.proofs.mem_vault.MemVaultVault.append.Goals as goal
