@@ -25,11 +25,11 @@ unfetched : {X : Type 0} (tells : Type 0) (kept : Option (List ℕ)) (limit : �
     → tells → (rose → ⊥) → kept ≡ Some bytes → length bytes ≤ limit → X
 unfetched tells kept limit rose fetching.Failed bytes h told calm is size = absurd (calm h)
 unfetched tells kept limit rose fetching.Missing bytes (inl h) told calm is size = let lacks = h.1 in absurd cc
-unfetched tells kept limit rose fetching.Missing bytes (inr h) told calm is size = absurd (h.0 told)
+unfetched tells kept limit rose fetching.Missing bytes (inr h) told calm is size = absurd (calm h)
 unfetched tells kept limit rose (fetching.TooLarge of) bytes (inl h) told calm is size =
     let same : h.1.0 ≡ bytes = same_bytes kept h.1.0 bytes h.1.1 is in
     absurd (omega (arith, ap length same, h.1.2))
-unfetched tells kept limit rose (fetching.TooLarge of) bytes (inr h) told calm is size = absurd (h.0 told)
+unfetched tells kept limit rose (fetching.TooLarge of) bytes (inr h) told calm is size = absurd (calm h)
 unfetched tells kept limit rose fetching.NoMemory bytes h told calm is size = absurd h
 
 -- A faulty script isn't of the form, or its clip, that of this script, has a fault.

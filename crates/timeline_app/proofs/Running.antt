@@ -2,7 +2,7 @@
 use Rattle.std.proofs.Common.{◌≡◌, ◌⊎◌, ℕ, Bool, true, false, List, [], ◌∷◌, ◌++◌, Option, Some, None, Result, Ok, Err, refl, sym, ap, ◌∙◌, inl, inr, arith}
 use Rattle.std.specs.Str.{bytes_eq}
 use Rattle.std.proofs.lemmas.Slice.Eq.{bytes_eq-Decides}
-use Rattle.tl_ports.specs.Outside.{KeepsOthers}
+use Rattle.timeline_app.specs.Run.{KeepsOtherFiles}
 use Rattle.tl_ports.specs.declared.fault.PutFault.{PutFault}
 use Rattle.tl_ports.specs.declared.fault.PutFault.TheVariants as putting
 use Rattle.mkv_read.specs.declared.clip.ClipIndex.{ClipIndex}
@@ -149,7 +149,7 @@ one_of status (inr h) = inr (inr (inr h))
 
 -- A file is the export's or another.
 changes : (name : List ℕ) (tells : Type 0) (file : List ℕ → Option (List ℕ)) (vault_tells : Type 0) (old new : List ℕ → Option (List ℕ)) (script : Form) (bytes : List ℕ) (clip : ClipIndex)
-    → Works (Some name) tells file script bytes clip → IsInside script clip → ChangesExport vault_tells (old script.export) (new script.export) script bytes clip → KeepsOthers vault_tells script.export old new
+    → Works (Some name) tells file script bytes clip → IsInside script clip → ChangesExport vault_tells (old script.export) (new script.export) script bytes clip → KeepsOtherFiles vault_tells script.export old new
     → ChangesOnlyExport (Some name) tells file vault_tells old new
 changes name tells file vt old new script bytes clip works inside own others told other = at (bytes_eq other script.export) refl
   where

@@ -1,9 +1,9 @@
 -- What a run does: what it works on, what it puts out, and which status has which cause.
-use Rattle.std.specs.Prelude.{◌≡◌, ◌⊎◌, ℕ, ◌<◌, ◌≤◌, ◌==◌, if◌then◌else◌, List, [], ◌∷◌, ◌++◌, length, map, take, drop, slice_index, Option, Some, None, Result, Ok, Err, string_bytes}
+use Rattle.std.specs.Prelude.{◌≡◌, ◌≢◌, ◌⊎◌, ℕ, ◌<◌, ◌≤◌, ◌==◌, if◌then◌else◌, List, [], ◌∷◌, ◌++◌, length, map, take, drop, slice_index, Option, Some, None, Result, Ok, Err, string_bytes}
 use Rattle.std.specs.List.{AllByRecursion}
 use Rattle.tl_ports.specs.declared.fault.FetchFault.{FetchFault}
 use Rattle.tl_ports.specs.declared.fault.FetchFault.TheVariants as fetching
-use Rattle.tl_ports.specs.Outside.{Rose, KeepsOthers, IsToldOr, IsLonger}
+use Rattle.tl_ports.specs.Outside.{Rose}
 use Rattle.mkv_read.specs.declared.clip.ClipIndex.{ClipIndex}
 use Rattle.mkv_read.specs.declared.clip.Place.{Place}
 use Rattle.mkv_read.specs.Clip.{clip_of, IsWithinLimits}
@@ -89,8 +89,8 @@ IsPartial held script bytes clip = IsPrefix held (export_of script bytes clip)
 -- A fetch that was refused has its cause: the count rose, or the told store lacks the file or holds more of it than the limit.
 abbrev pub IsUnfetched : (tells : Type 0) (kept : Option (List ℕ)) (limit : ℕ) (rose : Type 0) → FetchFault → Type 0
 IsUnfetched tells kept limit rose fetching.Failed = rose
-IsUnfetched tells kept limit rose fetching.Missing = IsToldOr tells (kept ≡ None) rose
-IsUnfetched tells kept limit rose (fetching.TooLarge told) = IsToldOr tells (IsLonger kept limit) rose
+IsUnfetched tells kept limit rose fetching.Missing = (tells × (kept ≡ None)) ⊎ rose
+IsUnfetched tells kept limit rose (fetching.TooLarge told) = (tells × ((text : List ℕ) × (kept ≡ Some text) × (limit < length text))) ⊎ rose
 IsUnfetched tells kept limit rose fetching.NoMemory = ⊥
 
 -- The script's text was read: it is of the form, or this line of it isn't.
@@ -227,6 +227,10 @@ ending_status (endings.Done frames) = 0
 ending_status endings.Sink = 4
 ending_status endings.NoMemory = 5
 
+-- Files of other names than this one are as before.
+abbrev pub KeepsOtherFiles : (tells : Type 0) (name : List ℕ) (old new : List ℕ → Option (List ℕ)) → Type 0
+KeepsOtherFiles tells name old new = tells → (other : List ℕ) → other ≢ name → new other ≡ old other
+
 -- What an export did that was asked for, by the status. `lines` is what `out` was to get, by how the export ended.
 pub record PlaysExport (vault_tells : Type 0) (vault_faults : Count) (old new : List ℕ → Option (List ℕ)) (out_tells : Type 0) (out_faults : Count) (before after : List (List ℕ))
     (lines : Ending → List (List ℕ)) (script : Form) (bytes : List ℕ) (clip : ClipIndex) (status : ℕ) : Type 0 where
@@ -242,7 +246,7 @@ pub record PlaysExport (vault_tells : Type 0) (vault_faults : Count) (old new : 
   pub no_other : (status ≡ 0) ⊎ ((status ≡ 4) ⊎ (status ≡ 5))
   -- whatever the status, the file is as before or holds some front of the export, and no other changed
   pub file : ChangesExport vault_tells (old script.export) (new script.export) script bytes clip
-  pub files : KeepsOthers vault_tells script.export old new
+  pub files : KeepsOtherFiles vault_tells script.export old new
   -- and `out` got some front of the lines, which say how the export ended
   pub said : (ending : Ending) × EndsExport vault_tells new vault_faults script bytes clip ending × PutsFront out_tells before after (lines ending)
 
