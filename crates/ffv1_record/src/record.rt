@@ -1,14 +1,15 @@
 //! The configuration record.
-ghost use Rattle.std.specs.Prelude.{◌≡◌, ◌≤◌, ◌<◌, ◌+◌, ◌-◌, ◌/◌, ◌^◌, ◌↔◌, IsSome, IfSome, IfOk, IsTrue, OnOk, Ok, true, length, map};
+ghost use Rattle.std.specs.Prelude.{◌≡◌, ℕ, ◌≤◌, ◌<◌, ◌+◌, ◌-◌, ◌/◌, ◌^◌, ◌↔◌, IsSome, IfSome, IfOk, IsTrue, OnOk, Ok, true, length, map, slice_index_or, []};
 ghost use Rattle.ffv1_record.specs.Reading.{Gives, fields_at, parameters};
 ghost use Rattle.tl_limits.specs.Limits.{IsSide, max_side, max_slices};
 ghost use Rattle.pic_planes.specs.Shape.{AreShifts, IsShape, layout};
-ghost use Rattle.ffv1_record.specs.Parameters.{IsGrid, parameters_of};
-ghost use Rattle.ffv1_record.specs.Tables.{AreSets, set_of};
+ghost use Rattle.ffv1_record.specs.Parameters.{IsGrid, IsRecord, parameters_of, tables_of, context_count_of};
+ghost use Rattle.ffv1_record.specs.Tables.{AreSets, AreContexts, set_of};
 ghost use Rattle.ffv1_record.specs.Default.{coder_type_of};
 ghost use Rattle.ffv1_record.specs.Suits.{Suits, ReachesEnd, ReachesEnds};
 ghost use Rattle.ffv1_record.specs.Spelling.{record_bytes, with_parity};
 
+use crate::entries::Tables;
 use crate::fault::RecordFault;
 use crate::field_reader::FieldReader;
 use crate::field_writer::FieldWriter;
@@ -196,6 +197,24 @@ impl Record {
         self.sets.as_slice()
     }
 
+    /// Gives the entries of the tables of a set.
+    pub fn fill(&self, set: usize, tables: &mut Tables)
+        requires { set < length self.now.sets }
+        ensures { tables.new ≡ tables_of self.now set }
+    {
+        self.sets.as_slice()[set].fill(tables);
+    }
+
+    /// Tells, in a proof, what is true of every record: its fields are those that a record can have, and the sum of one entry of
+    /// each table of a set is one of the set's contexts. It does nothing.
+    pub fn lawful(&self)
+        ensures fields { IsRecord self.now }
+        ensures contexts { (set : ℕ) → set < length self.now.sets → AreContexts (tables_of self.now set) (context_count_of self.now set) }
+    {
+        are_lawful(self.sets.as_slice());
+        let _intra = self.intra;
+    }
+
     /// Whether each slice ends with an error status and its parity.
     pub fn ec(&self) -> bool
         ensures { result ≡ self.now.ec }
@@ -249,6 +268,12 @@ impl Record {
         same && self.columns <= width && self.rows <= height && covered
     }
 }
+
+// The sum of one entry of each table of a set is one of the set's contexts.
+fn are_lawful(sets: &[TableSet])
+    requires { AreSets sets.now }
+    ensures { (set : ℕ) → set < length sets.now → AreContexts (set_of (slice_index_or sets.now set [])).tables (set_of (slice_index_or sets.now set [])).context_count }
+{}
 
 /// Puts the parity of bytes behind them.
 #[tactic(auto, unfolding(crate::specs::Spelling::with_parity))]
