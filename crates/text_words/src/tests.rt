@@ -70,7 +70,7 @@ fn lines_and_words(rt: HostRuntime) -> Result<(), Fail> {
     assert_eq!(rt; trim(Blanks::SpaceTab, b" \ta b\r "), b"a b\r".as_slice());
     assert_eq!(rt;
         words(rt.alloc(), Blanks::SpaceTab, b" a\tb\r ")?.as_slice(),
-        &[b"a".as_slice(), b"b\r".as_slice()]
+        [b"a".as_slice(), b"b\r".as_slice()].as_slice()
     );
     assert_eq!(rt;
         words(rt.alloc(), Blanks::SpaceTabReturn, b"a\rb")?.len(),
