@@ -8,3 +8,6 @@ mod near;
 
 pub use left::Left;
 pub use near::Near;
+
+#[cfg(test)]
+mod tests;
