@@ -1,5 +1,5 @@
 -- Fronts of a list, and the entries of one number.
-use Rattle.std.proofs.Common.{◌≡◌, ℕ, ◌+◌, ◌<◌, ◌≤◌, ◌≢◌, ltb, eqb, cond, Bool, true, false, List, [], ◌∷◌, ◌++◌, length, All, sym, refl, ap, ◌∙◌, subst, append_assoc, append-nil, length-append, ne_eqb, arith}
+use Rattle.std.proofs.Common.{◌≡◌, ℕ, ◌≤◌, ◌≢◌, ltb, eqb, cond, Bool, true, false, List, [], ◌∷◌, ◌++◌, length, All, sym, refl, ap, ◌∙◌, subst, append_assoc, append-nil, ne_eqb, arith}
 use borrow.Author.Tests.{ltb-true, ltb-false}
 use Rattle.std.proofs.lemmas.List.Elements.{filter-append, All-head, All-tail}
 use Rattle.tl_model.specs.declared.journal.Entry.{Entry}
@@ -49,3 +49,11 @@ entries_other mine number (e ∷ es) all other =
 pub entries_stay : (mine number : ℕ) (log more : List Entry) → All (λ e. e.pass ≡ mine) more → number ≢ mine → entries_of number (log ++ more) ≡ entries_of number log
 entries_stay mine number log more all other =
     entries-append number log more ∙ ap (λ l. entries_of number log ++ l) (entries_other mine number more all other) ∙ append-nil (entries_of number log)
+
+-- what two lists were is a front of the longer, where both were compared with one list
+pub fronts_after : (a b p q seen behind after : List Entry) → seen ≡ longer a b → behind ≡ shorter a b → after ≡ seen → a ≡ p → b ≡ q → (log : List Entry) × IsFront seen log × IsFront behind log
+    → IsFront p after × IsFront q after
+fronts_after a b p q seen behind after is other same a_is b_is told =
+    let both = fronts_of_longer a b told.0 (subst (λ l. IsFront l told.0) is told.1) (subst (λ l. IsFront l told.0) other told.2) in
+    let whole : longer a b ≡ after = sym (same ∙ is) in
+    (subst (λ l. IsFront l after) a_is (subst (λ l. IsFront a l) whole both.0), subst (λ l. IsFront l after) b_is (subst (λ l. IsFront b l) whole both.1))

@@ -1,23 +1,24 @@
 -- Each step keeps the rule of the turn, and tells what it is to tell.
-use Rattle.std.proofs.Common.{◌≡◌, ℕ, ◌+◌, ◌*◌, ◌/◌, ◌%◌, ◌^◌, ◌<◌, ◌≤◌, ◌≢◌, ◌⊎◌, Bool, true, false, ltb, List, [], ◌∷◌, ◌++◌, length, get_or, set, All, Contains, Option, Some, None, IfSome, unwrap_or, bit_or, sym, refl, ap, ◌∙◌, subst, inl, inr, ⊎_elim, true≢false, arith}
-use mathlib.Core.Option.{none, some}
+use Rattle.std.proofs.Common.{◌≡◌, ℕ, ◌+◌, ◌*◌, ◌/◌, ◌^◌, ◌<◌, ◌≤◌, ◌≢◌, ◌⊎◌, Bool, true, false, ltb, List, [], ◌∷◌, ◌++◌, length, get_or, set, All, Contains, Option, Some, IfSome, unwrap_or, bit_or, sym, refl, ap, ◌∙◌, subst, inl, inr, ⊎_elim, true≢false, arith}
+use mathlib.Core.Option.{none, some, some-injective}
 use lib.ListN.{get_elem?}
 use lib.Seq.{set-get_or}
 use Rattle.std.proofs.lemmas.Nat.{or_block, or_shifted}
 use lib.Bits.{or_zero_r}
 use Rattle.std.proofs.lemmas.List.Elements.{Contains-append_cases}
+use Rattle.atomic_table.specs.Seated.{TableId}
 use Rattle.atomic_table.specs.Table.{State, Me, Step, step, keeps, takes as taking, gives, stepped, Allows, Splits, Joins, Final, Seen}
-use Rattle.atomic_table.proofs.Lists.{at_set, set_again, set_here, set_else}
+use Rattle.atomic_table.proofs.Lists.{set_again, set_here, set_else}
 use Rattle.tl_model.specs.declared.journal.Entry.{Entry}
 use Rattle.turn_lock.specs.declared.view.Joined.{Joined}
 use Rattle.turn_lock.specs.declared.view.View.{View}
 use Rattle.turn_lock.specs.Entries.{entries_of, IsFront, Adds, longer, shorter}
 use Rattle.turn_lock.specs.Views.{as_joined, split_from, split_off, note_of, with_seen, with_joined, spent, with_look, with_word, with_turn, with_leave}
-use Rattle.turn_lock.specs.Rule.{Telling, IsAt, IsNamed, Fits, AreApart, AreEnded, NoneHolds, Holds, IsFree, IsTaken, IsTurn}
-use Rattle.turn_lock.specs.Passes.{Names}
-use Rattle.turn_lock.specs.Steps.{Finds, takes, leaves, looks, compares}
+use Rattle.turn_lock.specs.Rule.{Telling, IsAt, Fits, AreApart, AreEnded, IsFree, IsTaken, IsTurn}
+use Rattle.turn_lock.specs.Passes.{Names, PassOf, pass_of}
+use Rattle.turn_lock.specs.Steps.{takes, leaves, looks, compares}
 use Rattle.turn_lock.proofs.Fronts.{front_self, front_on, either_front, entries_stay}
-use Rattle.turn_lock.proofs.Places.{at_inside, same_at, contains_none, each_set, each_end, ArePassesOf, AreJoinedOf, apart_of, ended_of, passes_set, joined_set, passes_end, joined_end, HaveOneHolder, contains_first_or, apart_end, ended_end, holder_set, holder_end, holder_then, not_held, none_holds_of, holds_of}
+use Rattle.turn_lock.proofs.Places.{at_inside, same_at, contains_none, each_set, each_end, ArePassesOf, apart_of, ended_of, passes_set, joined_set, passes_end, joined_end, HaveOneHolder, contains_first_or, apart_end, ended_end, holder_set, holder_end, holder_then, not_held, none_holds_of, holds_of}
 
 even_or : (n : ℕ) → bit_or (2 * n) 1 ≡ 2 * n + 1
 even_or n = let e : 2 * n ≡ n * 2 = omega arith in let s : bit_or (n * 2) 1 ≡ n * 2 + 1 = or_shifted n 1 1 (omega arith) in
@@ -494,17 +495,17 @@ module _ {B : Type 0} (tells : Telling B) (start : B) where
       let named_in = all_named t.holder.number (one_up t.holder.number not_main) low in
       r.ended t.place id t.holder v t.holds.0 at named_t named_in.0 named_in.1 (sym named_in.2)
 
-  -- the value at the end
-  pub record Ends (v : View B) (value : B) : Type 0 where
-    pub extends : IsFront v.seen (tells.entries value)
-    pub main : entries_of 0 (tells.entries value) ≡ v.mine
-    pub joined : (e : Joined) → Contains v.joined e → entries_of e.number (tells.entries value) ≡ e.own
-    pub others : (number : ℕ) → v.made < number → entries_of number (tells.entries value) ≡ []
+  -- what the value at the end has, by what pass 0 knows
+  pub record Ends (pass : PassOf B) (value : B) : Type 0 where
+    pub extends : IsFront pass.seen (tells.entries value)
+    pub main : entries_of 0 (tells.entries value) ≡ pass.own
+    pub joined : (e : Joined) → Contains pass.joined e → entries_of e.number (tells.entries value) ≡ e.own
+    pub others : (number : ℕ) → pass.made < number → entries_of number (tells.entries value) ≡ []
     pub fixed : tells.fixed value ≡ tells.fixed start
     pub meets : tells.meets (tells.fixed start) (tells.entries value)
 
-  ends_free : (s : St) (r : Rule s) (f : IsFree tells start r.log s) (id : ℕ) (v : View B) → IsAt s.views id v → v.named ≡ true → v.number ≡ 0 → Ends v f.value
-  ends_free s r f id v at named main = let fit = r.fits id v at in let n = fit.named named in let makes : v.made ≡ r.made = n.counts main in record {
+  ends_free : (s : St) (r : Rule s) (f : IsFree tells start r.log s) (id : ℕ) (turn : TableId) (v : View B) → IsAt s.views id v → v.named ≡ true → v.number ≡ 0 → Ends (pass_of turn v) f.value
+  ends_free s r f id turn v at named main = let fit = r.fits id v at in let n = fit.named named in let makes : v.made ≡ r.made = n.counts main in record {
     extends = subst (λ l. IsFront v.seen l) (sym f.list) fit.seen;
     main = ap (entries_of 0) f.list ∙ (ap (λ k. entries_of k r.log) (sym main) ∙ sym n.own);
     joined = λ e has. let j = n.joined e has in ap (entries_of e.number) f.list ∙ sym j.2;
@@ -513,8 +514,25 @@ module _ {B : Type 0} (tells : Telling B) (start : B) where
     meets = subst (λ l. tells.meets (tells.fixed start) l) (sym f.list) r.meets;
   }
 
-  pub ends_ok : (id : ℕ) (v : View B) (words : List ℕ) (slots : List (Option B)) → v.named ≡ true → v.holds ≡ false → v.number ≡ 0 → ((number : ℕ) → 1 ≤ number → number ≤ v.made → Names v.joined number)
-      → Final (Seen Rule id v) words slots → (value : B) × (get_elem? slots 0 ≡ some (Some value)) × Ends v value
-  ends_ok id v words slots named free main all_named (s, (r, at), _, _, homes) =
-      ⊎_elim (λ (f : IsFree tells start r.log s). (f.value, homes 0 (Some f.value) (ap (λ hs. get_elem? hs 0) f.home), ends_free s r f id v at named main))
-      (λ (t : IsTaken r.log s). absurd (free_at_end s r id v at named free main all_named t)) r.turn
+  pub ends_ok : (id : ℕ) (turn : TableId) (v : View B) (pass : PassOf B) (words : List ℕ) (slots : List (Option B)) (found : Option B) → v.named ≡ true → pass_of turn v ≡ pass → pass.holds ≡ false
+      → pass.number ≡ 0 → ((number : ℕ) → 1 ≤ number → number ≤ pass.made → Names pass.joined number) → Final (Seen Rule id v) words slots → get_elem? slots 0 ≡ some found
+      → (value : B) × (found ≡ Some value) × Ends pass value
+  ends_ok id turn v pass words slots found named is free main all_named (s, (r, at), _, _, homes) here =
+      let free' : v.holds ≡ false = ap (λ (p : PassOf B). p.holds) is ∙ free in
+      let main' : v.number ≡ 0 = ap (λ (p : PassOf B). p.number) is ∙ main in
+      let named_in = subst (λ (p : PassOf B). (number : ℕ) → 1 ≤ number → number ≤ p.made → Names p.joined number) (sym is) all_named in
+      ⊎_elim (λ (f : IsFree tells start r.log s). (
+        f.value,
+        some-injective found (Some f.value) (sym here ∙ homes 0 (Some f.value) (ap (λ hs. get_elem? hs 0) f.home)),
+        subst (λ (p : PassOf B). Ends p f.value) is (ends_free s r f id turn v at named main'),
+      ))
+      (λ (t : IsTaken r.log s). absurd (free_at_end s r id v at named free' main' named_in t)) r.turn
+
+  -- the same for the value that was found in the slot
+  pub ends_at : (id : ℕ) (turn : TableId) (v : View B) (pass : PassOf B) (words : List ℕ) (slots : List (Option B)) (found : Option B) (value : B) → v.named ≡ true → pass_of turn v ≡ pass → pass.holds ≡ false
+      → pass.number ≡ 0 → ((number : ℕ) → 1 ≤ number → number ≤ pass.made → Names pass.joined number) → Final (Seen Rule id v) words slots → get_elem? slots 0 ≡ some found
+      → found ≡ Some value → Ends pass value
+  ends_at id turn v pass words slots found value named is free main all_named final here value_is =
+      let end = ends_ok id turn v pass words slots found named is free main all_named final here in
+      let same : end.0 ≡ value = ap (λ (o : Option B). unwrap_or o end.0) (sym end.1 ∙ value_is) in
+      subst (λ (x : B). Ends pass x) same end.2

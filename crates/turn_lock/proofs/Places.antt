@@ -1,8 +1,8 @@
 -- Views in a list: what a view that is put in another's place, or behind the others, leaves as it was.
 use Rattle.std.proofs.Common.{◌≡◌, ℕ, zero, suc, ◌<◌, ◌≢◌, ◌⊎◌, Bool, true, false, List, [], ◌∷◌, ◌++◌, length, set, Contains, sym, refl, ap, ◌∙◌, subst, inl, inr, ⊎_elim, true≢false, arith}
-use mathlib.Core.Option.{Option, some, some-injective, some-ne-none}
+use mathlib.Core.Option.{some, some-injective, some-ne-none}
 use lib.ListN.{get_elem?}
-use Rattle.atomic_table.proofs.Lists.{at_set, set_here, set_else, at_longer, at_last}
+use Rattle.atomic_table.proofs.Lists.{at_set, set_else, at_longer}
 use Rattle.turn_lock.specs.declared.view.Joined.{Joined}
 use Rattle.turn_lock.specs.declared.view.View.{View}
 use Rattle.turn_lock.specs.Rule.{IsAt, AreApart, AreEnded, NoneHolds, Holds}

@@ -1,5 +1,5 @@
 -- What each step on the word tells its caller: of the step, the view and the slot before, the word that was found or stored, and those after.
-use Rattle.std.specs.Prelude.{◌≡◌, ℕ, true, ◌*◌, ◌/◌, ◌%◌, List, [], ◌∷◌, length, Option, Some, None, IfSome}
+use Rattle.std.specs.Prelude.{◌≡◌, ℕ, true, ◌*◌, ◌/◌, ◌%◌, List, [], ◌∷◌, length, Option, Some, IfSome}
 use Rattle.atomic_table.specs.Table.{Me, Step}
 use Rattle.tl_model.specs.declared.journal.Entry.{Entry}
 use Rattle.turn_lock.specs.declared.view.View.{View}

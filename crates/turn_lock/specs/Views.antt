@@ -1,5 +1,5 @@
 -- What a seat at the table knows, and what the steps that need no word make of it.
-use Rattle.std.specs.Prelude.{ℕ, ◌+◌, ◌*◌, Bool, true, false, List, [], ◌∷◌, ◌++◌, length, Some, None}
+use Rattle.std.specs.Prelude.{ℕ, ◌+◌, ◌*◌, true, false, List, [], ◌∷◌, ◌++◌, length, Some, None}
 use Rattle.tl_model.specs.declared.journal.Entry.{Entry}
 use Rattle.turn_lock.specs.declared.view.Joined.{Joined}
 use Rattle.turn_lock.specs.declared.view.View.{View}
