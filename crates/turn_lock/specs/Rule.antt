@@ -38,11 +38,15 @@ module _ {B : Type 0} where
 
   -- the numbers of passes differ
   abbrev pub AreApart : List (View B) → Type 0
-  AreApart views = (i j : ℕ) (v w : View B) → IsAt views i v → IsAt views j w → v.named ≡ true → w.named ≡ true → v.number ≡ w.number → i ≡ j
+  AreApart views =
+      (i j : ℕ) (v w : View B) → IsAt views i v → IsAt views j w
+      → v.named ≡ true → w.named ≡ true → v.number ≡ w.number → i ≡ j
 
   -- no pass has the number of one that was joined
   abbrev pub AreEnded : List (View B) → Type 0
-  AreEnded views = (i j : ℕ) (v w : View B) → IsAt views i v → IsAt views j w → v.named ≡ true → (ended : Joined) → Contains w.joined ended → v.number ≢ ended.number
+  AreEnded views =
+      (i j : ℕ) (v w : View B) → IsAt views i v → IsAt views j w
+      → v.named ≡ true → (ended : Joined) → Contains w.joined ended → v.number ≢ ended.number
 
   -- nobody holds the turn
   abbrev pub NoneHolds : List (View B) → Type 0
@@ -50,7 +54,9 @@ module _ {B : Type 0} where
 
   -- the view at this place holds the turn, as the only one, and has seen the list
   abbrev pub Holds : List Entry → List (View B) → ℕ → View B → Type 0
-  Holds log views place v = IsAt views place v × (v.holds ≡ true) × (v.seen ≡ log) × ((i : ℕ) (w : View B) → IsAt views i w → w.holds ≡ true → i ≡ place)
+  Holds log views place v =
+      IsAt views place v × (v.holds ≡ true) × (v.seen ≡ log)
+      × ((i : ℕ) (w : View B) → IsAt views i w → w.holds ≡ true → i ≡ place)
 
   -- the word is even, and the value is at home with the list
   pub record IsFree (tells : Telling B) (start : B) (log : List Entry) (s : State (Option B) (View B)) : Type 0 where

@@ -1,4 +1,5 @@
--- What each step on the word tells its caller: of the step, the view and the slot before, the word that was found or stored, and those after.
+-- What each step on the word tells its caller, of the view and the slot before, the word that was found or stored, and the
+-- view and the slot after.
 use Rattle.std.specs.Prelude.{◌≡◌, ℕ, true, ◌*◌, ◌/◌, ◌%◌, List, [], ◌∷◌, length, Option, Some, IfSome}
 use Rattle.atomic_table.specs.Table.{Me, Step}
 use Rattle.tl_model.specs.declared.journal.Entry.{Entry}
@@ -22,10 +23,15 @@ module _ {B : Type 0} (tells : Telling B) where
     pub fixed : IfSome v.start (λ start. tells.fixed value ≡ tells.fixed start)
     pub meets : MeetsFor v (tells.entries value)
 
+  abbrev pub TakesAll : Sat B → ℕ → Sat B → Type 0
+  TakesAll before word after =
+      (value : B) × (after ≡ (with_turn (tells.entries value) before.0, (0, Some value) ∷ []))
+      × (word ≡ 2 * length (tells.entries value)) × Finds before.0 value
+
   -- a take at an even word has the slot with the value; one at an odd word has nothing
   abbrev pub takes : Step (Option B) → Sat B → ℕ → Sat B → Type 0
   takes step before word after =
-      (word % 2 ≡ 0 → (value : B) × (after ≡ (with_turn (tells.entries value) before.0, (0, Some value) ∷ [])) × (word ≡ 2 * length (tells.entries value)) × Finds before.0 value)
+      (word % 2 ≡ 0 → TakesAll before word after)
       × (word % 2 ≡ 1 → (after ≡ (with_word word before.0, before.1)) × MeetsFor before.0 before.0.seen)
 
   -- a leave gives the slot back, with the value that stands in it
@@ -44,4 +50,5 @@ module _ {B : Type 0} (tells : Telling B) where
   -- a look that changes nothing tells that the lists of the last join are fronts of one list
   abbrev pub compares : Step (Option B) → Sat B → ℕ → Sat B → Type 0
   compares step before word after =
-      (after ≡ before) × ((log : List Entry) × IsFront before.0.seen log × IsFront before.0.behind log) × MeetsFor before.0 before.0.seen
+      (after ≡ before) × ((log : List Entry) × IsFront before.0.seen log × IsFront before.0.behind log)
+      × MeetsFor before.0 before.0.seen

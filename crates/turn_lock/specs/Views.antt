@@ -9,9 +9,14 @@ use Rattle.turn_lock.specs.Entries.{longer, shorter}
 abbrev pub as_joined : {B : Type 0} → View B → Joined
 as_joined v = record { number = v.number; own = v.mine }
 
+-- what names nothing
+abbrev pub spent : {B : Type 0} → View B
+spent =
+    record { named = false; number = 0; holds = false; seen = []; behind = []; mine = []; made = 0; joined = []; start = None; word = 0 }
+
 -- a pass with this number that has made nothing
 abbrev pub new_view : {B : Type 0} → ℕ → B → View B
-new_view number start = record { named = true; number = number; holds = false; seen = []; behind = []; mine = []; made = 0; joined = []; start = Some start; word = 0 }
+new_view number start = record spent { named = true; number = number; start = Some start }
 
 -- pass 0 after a split, and the new pass
 abbrev pub split_from : {B : Type 0} → View B → View B
@@ -24,15 +29,12 @@ split_off v = record v { number = v.made + 1; holds = false; behind = []; mine =
 abbrev pub note_of : {B : Type 0} → View B → View B
 note_of v = record v { named = false; number = 0; holds = false; behind = []; mine = []; made = 0; joined = []; word = 0 }
 
--- what took in another, which names nothing any more
+-- what took in a note, or another pass
 abbrev pub with_seen : {B : Type 0} → View B → View B → View B
 with_seen v w = record v { seen = longer v.seen w.seen; behind = shorter v.seen w.seen }
 
 abbrev pub with_joined : {B : Type 0} → View B → View B → View B
 with_joined v w = record v { seen = longer v.seen w.seen; behind = shorter v.seen w.seen; joined = v.joined ++ as_joined w ∷ w.joined }
-
-abbrev pub spent : {B : Type 0} → View B
-spent = record { named = false; number = 0; holds = false; seen = []; behind = []; mine = []; made = 0; joined = []; start = None; word = 0 }
 
 -- what looked at the whole list, what tried to take the turn in vain, what took it, and what gave it back
 abbrev pub with_look : {B : Type 0} → List Entry → View B → View B

@@ -3,7 +3,7 @@
 ghost use Rattle.std.specs.Prelude.{◌≡◌, ◌≢◌, ℕ, ◌+◌, ◌^◌, ◌<◌, ◌≤◌, true, false, [], ◌∷◌, ◌++◌, length, Some, Contains, IfOk, IfErr};
 ghost use Rattle.turn_lock.specs.declared.view.Joined.{Joined};
 ghost use Rattle.turn_lock.specs.Entries.{entries_of, IsFront, Adds, longer};
-ghost use Rattle.turn_lock.specs.Passes.{IsOf, first_pass, IsTurnedAway, HasTaken, pass_from, note_from, named_by, Names};
+ghost use Rattle.turn_lock.specs.Passes.{IsOf, first_pass, IsTurnedAway, HasTaken, pass_from, note_from, Names, HasLeft, HasJoined};
 ghost use Rattle.turn_lock.specs.Entering.{entered_by, IfIn, IfBusy};
 
 use crate::journaled::Journaled;
@@ -40,6 +40,7 @@ impl<B: Journaled> Turn<B> {
         requires { B.entries value ≡ [] }
         ensures turn { IfOk result (λ made. made.0.start ≡ value) }
         ensures pass { IfOk result (λ made. made.1 ≡ first_pass made.0) }
+        ensures meets { IfOk result (λ made. B.meets (B.fixed value) made.1.seen) }
         ensures err { IfErr result (λ back. back.0 ≡ value) }
     {
         value.len();
@@ -109,7 +110,7 @@ impl<B: Journaled> Turn<B> {
         requires entered { (pass.old.holds ≡ true) × (entered_by held ≡ pass.old) }
         requires fixed { B.fixed held.value ≡ B.fixed self.now.start }
         requires added { Adds pass.old.number pass.old.seen (B.entries held.value) }
-        ensures left { pass.new ≡ record pass.old { seen = B.entries held.value; own = entries_of pass.old.number (B.entries held.value); holds = false } }
+        ensures left { HasLeft pass.old pass.new (B.entries held.value) }
         ensures meets { B.meets (B.fixed self.now.start) pass.new.seen }
     {
         let Held { value, by: _ } = held;
@@ -159,7 +160,7 @@ impl<B: Journaled> Turn<B> {
         requires turn { IsOf self.now pass.old × IsOf self.now other }
         requires free { (pass.old.holds ≡ false) × (other.holds ≡ false) }
         requires not_main { other.number ≢ 0 }
-        ensures joined { pass.new ≡ record pass.old { seen = longer pass.old.seen other.seen; joined = pass.old.joined ++ named_by other ∷ other.joined } }
+        ensures joined { HasJoined pass.old other pass.new }
         ensures extends { IsFront pass.old.seen pass.new.seen × IsFront other.seen pass.new.seen }
         ensures meets { B.meets (B.fixed self.now.start) pass.new.seen }
     {
