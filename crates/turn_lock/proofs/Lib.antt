@@ -1,4 +1,7 @@
+pub mod Ends
 pub mod Fronts
-pub mod Places
 pub mod Keeps
+pub mod Passing
+pub mod Places
+pub mod Rules
 pub mod Seen

@@ -1,6 +1,6 @@
 use Rattle.std.proofs.Common.{refl, sym, ap, ◌∙◌, subst, IsSome, Option}
 use Rattle.turn_lock.specs.Passes.{TurnOf}
-use Rattle.turn_lock.proofs.Keeps.{ends_ok, ends_at}
+use Rattle.turn_lock.proofs.Ends.{ends_ok, ends_at}
 use Rattle.turn_lock.proofs.turn.Turn.close.Goals as goal
 
 pub unwrap-value-requires : goal.unwrap-value-requires

@@ -1,7 +1,8 @@
 use Rattle.std.proofs.Common.{rules, Option, sym, ap, ◌∙◌}
 use Rattle.atomic_table.specs.Table.{Me}
 use Rattle.turn_lock.specs.declared.view.View.{View}
-use Rattle.turn_lock.proofs.Keeps.{joins_ok, compares_ok}
+use Rattle.turn_lock.proofs.Keeps.{compares_ok}
+use Rattle.turn_lock.proofs.Passing.{joins_ok}
 use Rattle.turn_lock.proofs.Fronts.{fronts_after}
 use Rattle.turn_lock.proofs.Seen.{not_held}
 use Rattle.turn_lock.proofs.turn.Turn.join.Goals as goal

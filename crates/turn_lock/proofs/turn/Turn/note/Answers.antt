@@ -1,5 +1,5 @@
 use Rattle.std.proofs.Common.{rules}
-use Rattle.turn_lock.proofs.Keeps.{notes_ok}
+use Rattle.turn_lock.proofs.Passing.{notes_ok}
 use Rattle.turn_lock.proofs.Seen.{not_held}
 use Rattle.turn_lock.proofs.turn.Turn.note.Goals as goal
 

@@ -1,5 +1,5 @@
 use Rattle.std.proofs.Common.{rules}
-use Rattle.turn_lock.proofs.Keeps.{splits_ok}
+use Rattle.turn_lock.proofs.Passing.{splits_ok}
 use Rattle.turn_lock.proofs.Seen.{not_held, number_is}
 use Rattle.turn_lock.proofs.turn.Turn.split.Goals as goal
 

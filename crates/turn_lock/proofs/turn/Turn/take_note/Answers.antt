@@ -1,7 +1,8 @@
 use Rattle.std.proofs.Common.{rules, Option, ap, ◌∙◌}
 use Rattle.atomic_table.specs.Table.{Me}
 use Rattle.turn_lock.specs.declared.view.View.{View}
-use Rattle.turn_lock.proofs.Keeps.{takes_note_ok, compares_ok}
+use Rattle.turn_lock.proofs.Keeps.{compares_ok}
+use Rattle.turn_lock.proofs.Passing.{takes_note_ok}
 use Rattle.turn_lock.proofs.Fronts.{fronts_after}
 use Rattle.turn_lock.proofs.Seen.{not_held}
 use Rattle.turn_lock.proofs.turn.Turn.take_note.Goals as goal
