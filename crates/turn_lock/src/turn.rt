@@ -19,6 +19,7 @@ use std::thread;
 
 /// A value behind a turn. Word 0 is twice the number of its entries while the turn is free, and one more while it is
 /// taken. The value lies in the one slot.
+#[derive(Drop)]
 pub struct Turn<B: Journaled> {
     table: Table<Option<B>, View<B>, Snapshot<B>, Law, Global>,
 }
