@@ -5,3 +5,4 @@ pub mod Passing
 pub mod Places
 pub mod Rules
 pub mod Seen
+pub mod Trials

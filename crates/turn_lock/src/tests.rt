@@ -106,11 +106,11 @@ fn stop_in_two<R: Threads + Wait + Sync>(
         rt,
         move ||
             requires { IsOf turn.now main × (main.holds ≡ false) }
-            ensures { IfSome result (AddsAlone main.entry) }
+            ensures { IfSome result (AddsAlone main) }
         { stop_five(rt, turn, main) },
         move ||
             requires { IsOf turn.now other × (other.holds ≡ false) }
-            ensures { IfSome result (AddsAlone other.entry) }
+            ensures { IfSome result (AddsAlone other) }
         { stop_five(rt, turn, other) },
     );
     Some((main?, other?))
