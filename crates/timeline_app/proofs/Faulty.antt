@@ -9,7 +9,7 @@ use Rattle.timeline_app.specs.declared.stop.Stop.{Stop}
 use Rattle.timeline_app.specs.declared.stop.Stop.TheVariants as stops
 use Rattle.timeline_app.specs.Script.{Form, script_of}
 use Rattle.timeline_app.specs.Run.{Count, Rises, IsScript, IsUnfetched, StopHasCause, stop_status}
-use Rattle.timeline_app.specs.Top.{Works, Stopped, IsFaulty, Runs}
+use Rattle.timeline_app.specs.Top.{Works, Stopped, IsFaulty, RunsBy}
 
 same_bytes : {A : Type 0} (kept : Option A) (x y : A) → kept ≡ Some x → kept ≡ Some y → x ≡ y
 same_bytes kept x y first second = cc
@@ -72,7 +72,7 @@ stopped_then tells faults file name ot or before after stopped told calm faulty 
     stop_then tells file name faults stopped.stop (subst (λ (n : List ℕ). StopHasCause tells file n faults stopped.stop) of stopped.cause) stopped.status_is told calm faulty
 
 pub three_or_five : (asked : Option (List ℕ)) (name : List ℕ) (tells : Type 0) (faults : Count) (file : List ℕ → Option (List ℕ)) (vault_tells : Type 0) (vault_faults : Count) (old new : List ℕ → Option (List ℕ))
-    (out_tells : Type 0) (out_faults : Count) (before after : List (List ℕ)) (status : ℕ) → Runs asked tells faults file vault_tells vault_faults old new out_tells out_faults before after status
+    (out_tells : Type 0) (out_faults : Count) (before after : List (List ℕ)) (status : ℕ) → RunsBy asked tells faults file vault_tells vault_faults old new out_tells out_faults before after status
     → asked ≡ Some name → tells → (Rises faults → ⊥) → IsFaulty file name → (status ≡ 3) ⊎ (status ≡ 5)
 three_or_five asked name tells faults file vt vf old new ot outf before after status runs asked_is told calm faulty = elim runs.no_other [
   | inl zero ↦

@@ -119,8 +119,10 @@ pub fn export<V: Vault>(alloc: Global, job: &Job, vault: &mut V) -> Ending
     requires idle { (V.seen vault.old).begun ≡ None }
     requires sound { IsSound job.now.bytes.items job.now.index }
     requires inside { IsInside (view job.now.script) job.now.index }
-    ensures ended { EndsExport (IsTrue V.tells) (V.seen vault.new).file ((V.seen vault.old).faults, (V.seen vault.new).faults) (view job.now.script) job.now.bytes.items job.now.index result }
-    ensures file { ChangesExport (IsTrue V.tells) ((V.seen vault.old).file (string_bytes job.now.script.export)) ((V.seen vault.new).file (string_bytes job.now.script.export)) (view job.now.script) job.now.bytes.items job.now.index }
+    ensures ended { EndsExport (IsTrue V.tells) (V.seen vault.new).file ((V.seen vault.old).faults, (V.seen vault.new).faults)
+        (view job.now.script) job.now.bytes.items job.now.index result }
+    ensures file { ChangesExport (IsTrue V.tells) ((V.seen vault.old).file (string_bytes job.now.script.export))
+        ((V.seen vault.new).file (string_bytes job.now.script.export)) (view job.now.script) job.now.bytes.items job.now.index }
     ensures others { KeepsOtherFiles (IsTrue V.tells) (string_bytes job.now.script.export) (V.seen vault.old).file (V.seen vault.new).file }
     ensures idle { (V.seen vault.new).begun ≡ None }
     ensures later { (V.seen vault.old).faults ≤ (V.seen vault.new).faults }
@@ -138,7 +140,8 @@ fn export_begun<V: Vault>(alloc: Global, job: &Job, vault: &mut V) -> Ending
     requires empty { IsTrue V.tells → (V.seen vault.old).held ≡ [] }
     requires sound { IsSound job.now.bytes.items job.now.index }
     requires inside { IsInside (view job.now.script) job.now.index }
-    ensures ended { EndsExport (IsTrue V.tells) (V.seen vault.new).file ((V.seen vault.old).faults, (V.seen vault.new).faults) (view job.now.script) job.now.bytes.items job.now.index result }
+    ensures ended { EndsExport (IsTrue V.tells) (V.seen vault.new).file ((V.seen vault.old).faults, (V.seen vault.new).faults)
+        (view job.now.script) job.now.bytes.items job.now.index result }
     ensures file { HoldsPartial (IsTrue V.tells) (V.seen vault.new).file (view job.now.script) job.now.bytes.items job.now.index }
     ensures others { KeepsOtherFiles (IsTrue V.tells) (string_bytes job.now.script.export) (V.seen vault.old).file (V.seen vault.new).file }
     ensures idle { (V.seen vault.new).begun ≡ None }

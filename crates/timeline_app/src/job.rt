@@ -30,7 +30,8 @@ pub struct Job {
 fn fetch<T: Store>(alloc: Global, store: &mut T, name: &str, limit: u64) -> Result<Vec<u8>, Stop>
     ensures fetched { IfOk result (λ bytes. IsFetched (IsTrue T.tells) ((T.seen store.old).file name.now) limit bytes.items) }
     ensures calm { OnOk result ((T.seen store.new).faults ≡ (T.seen store.old).faults) }
-    ensures stop { IfErr result (IsUnfetchedStop (IsTrue T.tells) ((T.seen store.old).file name.now) name.now limit ((T.seen store.old).faults, (T.seen store.new).faults)) }
+    ensures stop { IfErr result (IsUnfetchedStop (IsTrue T.tells) ((T.seen store.old).file name.now) name.now limit
+        ((T.seen store.old).faults, (T.seen store.new).faults)) }
     ensures files { (T.seen store.new).file ≡ (T.seen store.old).file }
     ensures later { (T.seen store.old).faults ≤ (T.seen store.new).faults }
 {
@@ -75,7 +76,10 @@ fn index_of(alloc: Global, bytes: &[u8]) -> Result<ClipIndex, Stop>
 fn fetch_script<T: Store>(alloc: Global, store: &mut T, name: &str) -> Result<Script, Stop>
     ensures script { IfOk result (λ script. IsScript (IsTrue T.tells) (T.seen store.old).file name.now (view script)) }
     ensures calm { OnOk result ((T.seen store.new).faults ≡ (T.seen store.old).faults) }
-    ensures stop { IfErr result (StopHasCause (IsTrue T.tells) (T.seen store.old).file name.now ((T.seen store.old).faults, (T.seen store.new).faults)) }
+    ensures stop { IfErr result (StopHasCause (IsTrue T.tells) (T.seen store.old).file name.now (
+      (T.seen store.old).faults,
+      (T.seen store.new).faults,
+    )) }
     ensures files { (T.seen store.new).file ≡ (T.seen store.old).file }
     ensures later { (T.seen store.old).faults ≤ (T.seen store.new).faults }
 {
@@ -95,7 +99,10 @@ fn fetch_clip<T: Store>(
     ensures calm { OnOk result ((T.seen store.new).faults ≡ (T.seen store.old).faults) }
     ensures holds { IfOk result (λ clip. clip_of clip.0.items ≡ Ok clip.1) }
     ensures within { IfOk result (λ clip. IsSound clip.0.items clip.1) }
-    ensures stop { IfErr result (IsClipStop (IsTrue T.tells) ((T.seen store.old).file file.now) file.now ((T.seen store.old).faults, (T.seen store.new).faults)) }
+    ensures stop { IfErr result (IsClipStop (IsTrue T.tells) ((T.seen store.old).file file.now) file.now (
+      (T.seen store.old).faults,
+      (T.seen store.new).faults,
+    )) }
     ensures files { (T.seen store.new).file ≡ (T.seen store.old).file }
     ensures later { (T.seen store.old).faults ≤ (T.seen store.new).faults }
 {
@@ -112,7 +119,10 @@ fn fetch_clip<T: Store>(
 pub fn fetch_job<T: Store>(alloc: Global, store: &mut T, name: &str) -> Result<Job, Stop>
     ensures job { IfOk result (λ job. IsJob (IsTrue T.tells) (T.seen store.old).file name.now (view job.script) job.bytes.items job.index) }
     ensures calm { OnOk result ((T.seen store.new).faults ≡ (T.seen store.old).faults) }
-    ensures stop { IfErr result (StopHasCause (IsTrue T.tells) (T.seen store.old).file name.now ((T.seen store.old).faults, (T.seen store.new).faults)) }
+    ensures stop { IfErr result (StopHasCause (IsTrue T.tells) (T.seen store.old).file name.now (
+      (T.seen store.old).faults,
+      (T.seen store.new).faults,
+    )) }
     ensures within { IfOk result (λ job. IsSound job.bytes.items job.index) }
     ensures files { (T.seen store.new).file ≡ (T.seen store.old).file }
     ensures later { (T.seen store.old).faults ≤ (T.seen store.new).faults }

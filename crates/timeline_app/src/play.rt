@@ -38,7 +38,9 @@ fn play_asked<V: Vault, O: Sink>(alloc: Global, job: &Job, vault: &mut V, out: &
     requires idle { (V.seen vault.old).begun ≡ None }
     requires sound { IsSound job.now.bytes.items job.now.index }
     requires inside { IsInside (view job.now.script) job.now.index }
-    ensures plays { PlaysExport (IsTrue V.tells) ((V.seen vault.old).faults, (V.seen vault.new).faults) (V.seen vault.old).file (V.seen vault.new).file (IsTrue O.tells) ((O.seen out.old).faults, (O.seen out.new).faults) (O.seen out.old).pieces (O.seen out.new).pieces asked_lines (view job.now.script) job.now.bytes.items job.now.index result }
+    ensures plays { PlaysExport (IsTrue V.tells) ((V.seen vault.old).faults, (V.seen vault.new).faults) (V.seen vault.old).file
+        (V.seen vault.new).file (IsTrue O.tells) ((O.seen out.old).faults, (O.seen out.new).faults) (O.seen out.old).pieces
+        (O.seen out.new).pieces asked_lines (view job.now.script) job.now.bytes.items job.now.index result }
     ensures idle { (V.seen vault.new).begun ≡ None }
     ensures later { (O.seen out.old).faults ≤ (O.seen out.new).faults }
 {
@@ -58,8 +60,11 @@ fn play_export<V: Vault, O: Sink>(alloc: Global, job: &Job, vault: &mut V, out: 
     requires idle { (V.seen vault.old).begun ≡ None }
     requires sound { IsSound job.now.bytes.items job.now.index }
     requires inside { IsInside (view job.now.script) job.now.index }
-    ensures plays { PlaysExport (IsTrue V.tells) ((V.seen vault.old).faults, (V.seen vault.new).faults) (V.seen vault.old).file (V.seen vault.new).file (IsTrue O.tells) ((O.seen out.old).faults, (O.seen out.new).faults) (O.seen out.old).pieces (O.seen out.new).pieces (export_lines job.now.script.len) (view job.now.script) job.now.bytes.items job.now.index result }
-    ensures asked { IsUntouched (IsTrue V.tells) ((V.seen vault.old).faults, (V.seen vault.new).faults) (V.seen vault.old).file (V.seen vault.new).file
+    ensures plays { PlaysExport (IsTrue V.tells) ((V.seen vault.old).faults, (V.seen vault.new).faults) (V.seen vault.old).file
+        (V.seen vault.new).file (IsTrue O.tells) ((O.seen out.old).faults, (O.seen out.new).faults) (O.seen out.old).pieces
+        (O.seen out.new).pieces (export_lines job.now.script.len) (view job.now.script) job.now.bytes.items job.now.index result }
+    ensures asked { IsUntouched (IsTrue V.tells) ((V.seen vault.old).faults, (V.seen vault.new).faults) (V.seen vault.old).file
+        (V.seen vault.new).file
         ⊎ PutsFirst (IsTrue O.tells) (O.seen out.old).pieces (O.seen out.new).pieces (ok_line job.now.script.len) }
     ensures idle { (V.seen vault.new).begun ≡ None }
 {
@@ -71,7 +76,8 @@ fn play_export<V: Vault, O: Sink>(alloc: Global, job: &Job, vault: &mut V, out: 
 
 /// Refuses an insert past the clip's end, and the export of the empty timeline.
 fn play_refusal<O: Sink>(out: &mut O) -> u8
-    ensures { PlaysRefusal (IsTrue O.tells) ((O.seen out.old).faults, (O.seen out.new).faults) (O.seen out.old).pieces (O.seen out.new).pieces result }
+    ensures { PlaysRefusal (IsTrue O.tells) ((O.seen out.old).faults, (O.seen out.new).faults) (O.seen out.old).pieces
+        (O.seen out.new).pieces result }
 {
     match say_refused(out) {
         Ok(()) => 0,
@@ -83,7 +89,9 @@ fn play_refusal<O: Sink>(out: &mut O) -> u8
 pub fn play<V: Vault, O: Sink>(alloc: Global, job: &Job, vault: &mut V, out: &mut O) -> u8
     requires idle { (V.seen vault.old).begun ≡ None }
     requires sound { IsSound job.now.bytes.items job.now.index }
-    ensures plays { Plays (IsTrue V.tells) ((V.seen vault.old).faults, (V.seen vault.new).faults) (V.seen vault.old).file (V.seen vault.new).file (IsTrue O.tells) ((O.seen out.old).faults, (O.seen out.new).faults) (O.seen out.old).pieces (O.seen out.new).pieces (view job.now.script) job.now.bytes.items job.now.index result }
+    ensures plays { Plays (IsTrue V.tells) ((V.seen vault.old).faults, (V.seen vault.new).faults) (V.seen vault.old).file
+        (V.seen vault.new).file (IsTrue O.tells) ((O.seen out.old).faults, (O.seen out.new).faults) (O.seen out.old).pieces
+        (O.seen out.new).pieces (view job.now.script) job.now.bytes.items job.now.index result }
     ensures idle { (V.seen vault.new).begun ≡ None }
 {
     if job.script.len as usize <= job.index.packets.as_slice().len() {

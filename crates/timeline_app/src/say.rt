@@ -13,7 +13,10 @@ use tl_ports::{PutFault, Sink};
 
 /// Puts a line.
 pub fn say<O: Sink>(out: &mut O, line: &str) -> Result<(), PutFault>
-    ensures said { Says (IsTrue O.tells) (O.seen out.old).pieces (O.seen out.new).pieces (line.now ∷ []) ((O.seen out.old).faults, (O.seen out.new).faults) result }
+    ensures said { Says (IsTrue O.tells) (O.seen out.old).pieces (O.seen out.new).pieces (line.now ∷ []) (
+      (O.seen out.old).faults,
+      (O.seen out.new).faults,
+    ) result }
     ensures later { (O.seen out.old).faults ≤ (O.seen out.new).faults }
 {
     match out.put(line.as_bytes()) {
@@ -25,7 +28,11 @@ pub fn say<O: Sink>(out: &mut O, line: &str) -> Result<(), PutFault>
 
 /// Puts a line that takes memory to make.
 pub fn say_made<O: Sink>(out: &mut O, line: Result<String, AllocError>) -> Result<(), PutFault>
-    ensures said { (text : List ℕ) → IfOk line (λ made. string_bytes made ≡ text) → Says (IsTrue O.tells) (O.seen out.old).pieces (O.seen out.new).pieces (text ∷ []) ((O.seen out.old).faults, (O.seen out.new).faults) result }
+    ensures said { (text : List ℕ) → IfOk line (λ made. string_bytes made ≡ text)
+        → Says (IsTrue O.tells) (O.seen out.old).pieces (O.seen out.new).pieces (text ∷ []) (
+          (O.seen out.old).faults,
+          (O.seen out.new).faults,
+        ) result }
     ensures later { (O.seen out.old).faults ≤ (O.seen out.new).faults }
 {
     match line {
@@ -36,7 +43,8 @@ pub fn say_made<O: Sink>(out: &mut O, line: Result<String, AllocError>) -> Resul
 
 /// Puts the line that says how the export ended.
 pub fn say_ending<O: Sink>(alloc: Global, out: &mut O, ending: Ending) -> Result<(), PutFault>
-    ensures said { Says (IsTrue O.tells) (O.seen out.old).pieces (O.seen out.new).pieces (ending_line ending ∷ []) ((O.seen out.old).faults, (O.seen out.new).faults) result }
+    ensures said { Says (IsTrue O.tells) (O.seen out.old).pieces (O.seen out.new).pieces (ending_line ending ∷ [])
+        ((O.seen out.old).faults, (O.seen out.new).faults) result }
     ensures later { (O.seen out.old).faults ≤ (O.seen out.new).faults }
 {
     match ending {
@@ -48,7 +56,10 @@ pub fn say_ending<O: Sink>(alloc: Global, out: &mut O, ending: Ending) -> Result
 
 /// Puts the lines of a refused insert and of the refused export of the empty timeline.
 pub fn say_refused<O: Sink>(out: &mut O) -> Result<(), PutFault>
-    ensures said { Says (IsTrue O.tells) (O.seen out.old).pieces (O.seen out.new).pieces refused_lines ((O.seen out.old).faults, (O.seen out.new).faults) result }
+    ensures said { Says (IsTrue O.tells) (O.seen out.old).pieces (O.seen out.new).pieces refused_lines (
+      (O.seen out.old).faults,
+      (O.seen out.new).faults,
+    ) result }
     ensures later { (O.seen out.old).faults ≤ (O.seen out.new).faults }
 {
     match say(out, refused_insert_line()) {
