@@ -42,11 +42,11 @@ class Try(NamedTuple):
 class Ground:
     """A folder with a script that works, its clip, an old export and a file that has nothing to do with them."""
 
-    def __init__(self, work: Path):
-        self.folder = work / "bad"
+    def __init__(self, work: Path, name: str):
+        self.folder = work / name
         clip = clips.Clip("128x96", "yuv420p", clips.RANGE, 4, 1, FRAMES, ())
-        self.clip = clips.make(clip, work / "bad-clip")
-        self.data = (work / "bad-clip" / "a.mkv").read_bytes()
+        self.clip = clips.make(clip, work / f"{name}-clip")
+        self.data = (work / f"{name}-clip" / "a.mkv").read_bytes()
         self.export = self.written(RATE)
         self.files = {
             "s": script(length=FRAMES, rate=RATE),
@@ -201,7 +201,7 @@ def full_output(report: Report, ground: Ground):
 
 
 def check_bad_input(report: Report, work: Path):
-    ground = Ground(work)
+    ground = Ground(work, "bad")
     for it in (*scripts(), *words(), *names(), *clip_files(ground)):
         ground.attempt(report, it)
     check_reader(report, ground)

@@ -115,7 +115,7 @@ def shut_folder(report: Report, ground: Ground):
 
 
 def check_kept(report: Report, work: Path):
-    ground = Ground(work)
+    ground = Ground(work, "kept")
     for it in RUNS:
         attempt(report, ground, it)
     killed(report, ground)
