@@ -7,3 +7,6 @@ mod order;
 mod part;
 
 pub use building::build;
+
+#[cfg(test)]
+mod tests;
