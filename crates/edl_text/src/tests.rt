@@ -1,6 +1,7 @@
 //! A list that is read, written and read again.
 
 use crate::{EdlFault, EdlWhy, Event, read_edl, write_edl};
+use std::alloc::Global;
 use std::test::Fail;
 
 #[rattlefmt::skip]
@@ -64,24 +65,35 @@ fn numbers(event: &Event) -> (u32, Option<u32>, [u32; 4]) {
     (event.number, event.duration, times)
 }
 
+/// The text that a list is written as once it is read.
+fn rewritten(alloc: Global, text: &[u8]) -> Result<Vec<u8>, EdlFault> {
+    let list = read_edl(alloc, text, 25)?;
+    Ok(write_edl(alloc, &list, 25)?)
+}
+
+fn is_text(written: &Result<Vec<u8>, EdlFault>, text: &str) -> bool {
+    match written {
+        Ok(bytes) => bytes.as_slice() == text.as_bytes(),
+        Err(_) => false,
+    }
+}
+
+fn third(alloc: Global, text: &[u8]) -> Result<(u32, Option<u32>, [u32; 4]), EdlFault> {
+    let list = read_edl(alloc, text, 25)?;
+    match list.events.as_slice() {
+        [_, _, event] => Ok(numbers(event)),
+        _ => Err(EdlFault::NoMemory),
+    }
+}
+
 #[test]
 fn a_list_is_written_and_read_back(rt: HostRuntime) -> Result<(), Fail> {
-    let Ok(list) = read_edl(rt.alloc(), LIST.as_bytes(), 25) else {
-        return Err(Fail);
-    };
-    assert_eq!(rt; list.title.as_str(), "REEL ONE");
-    assert_eq!(rt; list.events.as_slice().len(), 3);
     assert_eq!(rt;
-        numbers(&list.events.as_slice()[2]),
-        (2, Some(25), [25, 150, 90_100, 90_225])
+        third(rt.alloc(), LIST.as_bytes()),
+        Ok((2, Some(25), [25, 150, 90_100, 90_225]))
     );
-    let written = write_edl(rt.alloc(), &list, 25)?;
-    assert_eq!(rt; written.as_slice(), WRITTEN.as_bytes());
-    let Ok(again) = read_edl(rt.alloc(), &written, 25) else {
-        return Err(Fail);
-    };
-    let rewritten = write_edl(rt.alloc(), &again, 25)?;
-    assert_eq!(rt; rewritten.as_slice(), WRITTEN.as_bytes());
+    assert!(rt; is_text(&rewritten(rt.alloc(), LIST.as_bytes()), WRITTEN));
+    assert!(rt; is_text(&rewritten(rt.alloc(), WRITTEN.as_bytes()), WRITTEN));
     Ok(())
 }
 
