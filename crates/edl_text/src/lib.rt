@@ -9,8 +9,13 @@ mod line;
 mod names;
 mod reading;
 mod row;
+mod writing;
 
 pub use event::{Edl, Event, Events};
 pub use fault::{EdlFault, EdlWhy};
 pub use label::Text;
 pub use reading::read_edl;
+pub use writing::write_edl;
+
+#[cfg(test)]
+mod tests;
