@@ -1,5 +1,6 @@
 -- The fields of a configuration record. RFC 9043 section 4.2.
 use Rattle.std.specs.Prelude.{◌≡◌, ℕ, ◌*◌, ◌^◌, ◌<◌, ◌≤◌, Bool, List, drop, map, All}
+use Rattle.tl_limits.specs.Limits.{max_slices}
 use Rattle.pic_planes.specs.declared.shape.Chroma.{Chroma}
 use Rattle.pic_planes.specs.Shape.{AreShifts}
 use Rattle.ffv1_range.specs.declared.transition.TheConstants.{USUAL}
@@ -32,7 +33,7 @@ runs_of p = map (λ set. set.runs) p.sets
 pub record IsGrid (columns rows : ℕ) : Type 0 where
   pub some_columns : 1 ≤ columns
   pub some_rows : 1 ≤ rows
-  pub few : columns * rows ≤ 1024
+  pub few : columns * rows ≤ max_slices
 
 -- the table of the states after a bit 1, for this coder type
 pub record IsTableFor (coder_type : ℕ) (transition : List ℕ) : Type 0 where

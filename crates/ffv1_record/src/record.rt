@@ -1,7 +1,8 @@
 //! The configuration record.
 ghost use Rattle.std.specs.Prelude.{◌≡◌, ◌≤◌, ◌<◌, ◌+◌, ◌-◌, ◌/◌, ◌^◌, ◌↔◌, IsSome, IfSome, IfOk, IsTrue, OnOk, Ok, true, length, map};
 ghost use Rattle.ffv1_record.specs.Reading.{Gives, fields_at, parameters};
-ghost use Rattle.pic_planes.specs.Shape.{AreShifts, IsShape, IsSize, layout};
+ghost use Rattle.tl_limits.specs.Limits.{IsSide, max_side, max_slices};
+ghost use Rattle.pic_planes.specs.Shape.{AreShifts, IsShape, layout};
 ghost use Rattle.ffv1_record.specs.Parameters.{IsGrid, parameters_of};
 ghost use Rattle.ffv1_record.specs.Tables.{AreSets, set_of};
 ghost use Rattle.ffv1_record.specs.Default.{coder_type_of};
@@ -14,7 +15,7 @@ use crate::field_writer::FieldWriter;
 use crate::law::record_reads_back;
 use crate::tables::TableSet;
 use ffv1_range::{Transition, USUAL};
-use pic_planes::{Chroma, Shape};
+use pic_planes::{Chroma, Shape, shifted_down, shifted_up};
 use std::alloc::{AllocError, Global};
 use std::marker::Model;
 use tl_base::{big_u32, parity, put_big_u32};
@@ -264,8 +265,8 @@ pub(crate) fn put_parity(bytes: &mut Vec<u8>) -> Result<(), AllocError>
 fn reaches_ends(chroma: Chroma, columns: u32, rows: u32, width: u32, height: u32) -> bool
     requires chroma { AreShifts chroma }
     requires grid { IsGrid columns rows }
-    requires width { IsSize width }
-    requires height { IsSize height }
+    requires width { IsSide width }
+    requires height { IsSide height }
     ensures { IsTrue result ↔ ReachesEnds columns rows width height chroma }
 {
     match chroma {
@@ -276,38 +277,13 @@ fn reaches_ends(chroma: Chroma, columns: u32, rows: u32, width: u32, height: u32
 
 fn reaches_end(cells: u32, size: u32, shift: u8) -> bool
     requires cells { 1 ≤ cells }
-    requires few { cells ≤ 1024 }
-    requires size { size ≤ 8192 }
+    requires few { cells ≤ max_slices }
+    requires size { size ≤ max_side }
     requires shift { shift ≤ 2 }
     ensures { IsTrue result ↔ ReachesEnd cells size shift }
 {
     let start = (cells - 1) * size / cells;
-    let step = step_of(shift);
-    start / step + shifted_up(size - start, step) == shifted_up(size, step)
-}
-
-// The luma samples of a chroma sample in one direction.
-fn step_of(shift: u8) -> u32
-    requires { shift ≤ 2 }
-    ensures step { result ≡ 2 ^ shift }
-    ensures some { 1 ≤ result }
-    ensures small { result ≤ 4 }
-{
-    match shift {
-        0 => 1,
-        1 => 2,
-        _ => 4,
-    }
-}
-
-// A part of a size, rounded up.
-fn shifted_up(size: u32, step: u32) -> u32
-    requires step { 1 ≤ step }
-    requires small { step ≤ 4 }
-    requires size { size ≤ 8192 }
-    ensures { result ≡ (size + (step - 1)) / step }
-{
-    (size + (step - 1)) / step
+    shifted_down(start, shift) + shifted_up(size - start, shift) == shifted_up(size, shift)
 }
 
 fn coder_type_of(coder: Coder) -> u8
