@@ -1,9 +1,9 @@
 -- The neighbours of a sample, looked up in its row and the two rows above it. RFC 9043 sections 3.1 and 3.2.
-use Rattle.std.specs.Prelude.{ℕ, zero, suc, ◌+◌, ◌-◌, min, List, [], ◌∷◌, ◌++◌, length, slice_index}
+use Rattle.std.specs.Prelude.{ℕ, zero, suc, ◌+◌, ◌-◌, min, List, [], ◌∷◌, length, slice_index, replicate}
 use Rattle.ffv1_predict.specs.declared.near.Near.{Near}
 use Rattle.ffv1_predict.specs.declared.left.Left.{Left}
 
--- A row and the two rows above it. A row that isn't there has no samples, and a sample that isn't there counts as 0.
+-- a row and the two rows above it
 pub record Rows : Type 0 where
   pub above2 : List ℕ
   pub above : List ℕ
@@ -17,13 +17,9 @@ abbrev pub rows_below : List ℕ → List ℕ → List (List ℕ) → List Rows
 rows_below above2 above [] = []
 rows_below above2 above (row ∷ more) = rows above2 above row ∷ rows_below above row more
 
-abbrev pub rows_of_plane : List (List ℕ) → List Rows
-rows_of_plane plane = rows_below [] [] plane
-
--- and those of several planes, one plane after the other
-abbrev pub rows_of_planes : List (List (List ℕ)) → List Rows
-rows_of_planes [] = []
-rows_of_planes (plane ∷ planes) = rows_of_plane plane ++ rows_of_planes planes
+-- The samples above a slice's plane are 0.
+abbrev pub rows_of_plane : ℕ → List (List ℕ) → List Rows
+rows_of_plane width plane = rows_below (replicate width 0) (replicate width 0) plane
 
 -- Left of a row stands the first sample of the row above it.
 abbrev pub left : List ℕ → List ℕ → ℕ → ℕ

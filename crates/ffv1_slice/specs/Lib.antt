@@ -1,2 +1,4 @@
 pub mod Order
 pub mod Reading
+pub mod Area
+pub mod Slice

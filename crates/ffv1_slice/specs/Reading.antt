@@ -1,12 +1,12 @@
 -- The differences of a slice, read by the range coder. RFC 9043 sections 3.8.1.2 and 4.7.
-use Rattle.std.specs.Prelude.{◌≡◌, ℕ, ◌<◌, List, [], ◌∷◌, ◌++◌, length, slice_index_or, slice_set, ℤ, nat_abs, true, Option, Some, None}
+use Rattle.std.specs.Prelude.{◌≡◌, ◌⊎◌, ℕ, ◌<◌, List, [], ◌∷◌, length, slice_index_or, slice_set, ℤ, nat_abs, true, Option, Some, None}
 use Rattle.ffv1_range.specs.Reading.{Reading}
 use Rattle.ffv1_range.specs.Symbol.{Source, source, symbol_at}
 use Rattle.ffv1_range.specs.Transition.{AllKept}
 use Rattle.ffv1_predict.specs.declared.near.Near.{Near}
 use Rattle.ffv1_predict.specs.Near.{context, IsRestored}
 use Rattle.ffv1_predict.specs.Border.{Rows, near}
-use Rattle.ffv1_slice.specs.Order.{InRow, InRows}
+use Rattle.ffv1_slice.specs.Order.{InRow}
 
 -- a reader, and a set of 32 states for each context
 pub record Coding : Type 0 where
@@ -42,15 +42,11 @@ pub record TooLongInRow (tables : List (List ℤ)) (r : Rows) (old : Coding) : T
   pub before : InRow (ReadsSample tables) r column old mid
   pub too_long : difference_at mid (context tables (near r column)) ≡ (None, new)
 
--- The samples before are read, and the symbol of the next one is too long.
-pub record TooLongInRows (tables : List (List ℤ)) (rows : List Rows) (old : Coding) : Type 0 where
-  pub front : List Rows
-  pub row : Rows
-  pub rest : List Rows
-  pub parts : rows ≡ front ++ row ∷ rest
-  pub mid : Coding
-  pub before : InRows (ReadsSample tables) front old mid
-  pub too_long : TooLongInRow tables row mid
+-- In one of the rows a symbol is too long, and those before it are read.
+abbrev pub TooLongInRows : List (List ℤ) → List Rows → Coding → Type 0
+TooLongInRows tables [] old = ⊥
+TooLongInRows tables (r ∷ more) old =
+    TooLongInRow tables r old ⊎ ((mid : Coding) × InRow (ReadsSample tables) r (length r.row) old mid × TooLongInRows tables more mid)
 
 -- Each context has a set.
 abbrev pub ContextsFit : List (List ℤ) → ℕ → Type 0
