@@ -1,5 +1,5 @@
 -- Rectangles of a picture's planes.
-use Rattle.std.specs.Prelude.{◌≡◌, ℕ, ◌+◌, ◌≤◌, ◌<◌, List, [], ◌∷◌}
+use Rattle.std.specs.Prelude.{ℕ, ◌+◌, ◌≤◌, ◌<◌, List, [], ◌∷◌, All}
 use Rattle.pic_planes.specs.Shape.{Layout, plane_count, plane_width, plane_height}
 use Rattle.pic_planes.specs.Picture.{Image, row_of, with_row}
 use Rattle.pic_planes.specs.Bytes.{pasted}
@@ -24,3 +24,7 @@ with_first image area row = with_row image area.plane area.y (pasted (row_of ima
 abbrev pub with_rows : Image → Area → List (List ℕ) → Image
 with_rows image area [] = image
 with_rows image area (row ∷ rows) = with_rows (with_first image area row) (below area) rows
+
+-- They lie within their planes, and a line of a width is long enough for each.
+abbrev pub AreWithin : Layout → ℕ → List Area → Type 0
+AreWithin shape width areas = All (λ area. IsWithin shape area × (area.width ≤ width)) areas

@@ -2,3 +2,4 @@ pub mod Order
 pub mod Reading
 pub mod Area
 pub mod Slice
+pub mod Room

@@ -16,6 +16,14 @@ pub record Decoding : Type 0 where
 abbrev pub decoding : Coding → Image → Decoding
 decoding coding image = record { coding = coding; image = image }
 
+-- the reader and the picture alone
+pub record Standing : Type 0 where
+  pub reading : Reading
+  pub image : Image
+
+abbrev pub standing : Reading → Image → Standing
+standing reading image = record { reading = reading; image = image }
+
 -- The samples of an area are read: its finished plane is what the differences give at the contexts of that plane.
 pub record ReadsArea (tables : List (List ℤ)) (area : Area) (old new : Decoding) : Type 0 where
   pub plane : List (List ℕ)
@@ -43,24 +51,27 @@ abbrev pub TooLongInAreas : List (List ℤ) → List Area → Decoding → Type 
 TooLongInAreas tables [] old = ⊥
 TooLongInAreas tables (area ∷ more) old = TooLongInArea tables area old ⊎ ((mid : Decoding) × ReadsArea tables area old mid × TooLongInAreas tables more mid)
 
--- A set of tables, and how many contexts it gives.
-pub record Quantization : Type 0 where
+-- Samples that share the states of their contexts: Y, and again Cb and Cr. They have the five quantization tables, how many
+-- contexts these give, and the areas of their planes.
+pub record Part : Type 0 where
   pub tables : List (List ℤ)
-  pub count : ℕ
+  pub context_count : ℕ
+  pub areas : List Area
 
--- a reader with states that were never used
-abbrev pub fresh : Quantization → Reading → Coding
-fresh set reading = coding reading (replicate set.count (replicate 32 128))
+abbrev pub part : List (List ℤ) → ℕ → List Area → Part
+part tables context_count areas = record { tables = tables; context_count = context_count; areas = areas }
 
--- What is coded for a slice: Y with a set of tables, and Cb and Cr, which share the states of another.
-pub record Parts : Type 0 where
-  pub luma : Quantization
-  pub chroma : Quantization
-  pub first : Area
-  pub others : List Area
+-- sets of states that were never used
+abbrev pub fresh_contexts : ℕ → List (List ℕ)
+fresh_contexts count = replicate count (replicate 32 128)
 
--- The samples of a slice are read.
-pub record ReadsParts (parts : Parts) (old new : Decoding) : Type 0 where
-  pub between : Decoding
-  pub luma : ReadsArea parts.luma.tables parts.first (decoding (fresh parts.luma old.coding.reading) old.image) between
-  pub chroma : ReadsAreas parts.chroma.tables parts.others (decoding (fresh parts.chroma between.coding.reading) between.image) new
+-- the start of a part: the states of its contexts are fresh
+abbrev pub begun : Part → Standing → Decoding
+begun p at = decoding (coding at.reading (fresh_contexts p.context_count)) at.image
+
+-- The samples of a part are read. The states that its contexts then have serve no more.
+abbrev pub ReadsPart : Part → Standing → Standing → Type 0
+ReadsPart p old new = (contexts : List (List ℕ)) × ReadsAreas p.tables p.areas (begun p old) (decoding (coding new.reading contexts) new.image)
+
+abbrev pub TooLongInPart : Part → Standing → Type 0
+TooLongInPart p old = TooLongInAreas p.tables p.areas (begun p old)

@@ -2,7 +2,10 @@
 #![tactic(auto)]
 
 mod area;
+mod range_part;
 mod range_plane;
 mod range_row;
+mod scratch;
 
 pub use area::Area;
+pub use scratch::Scratch;

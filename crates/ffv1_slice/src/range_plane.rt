@@ -11,7 +11,7 @@ use ffv1_range::{RangeReader, States, TooLong};
 use pic_planes::Picture;
 
 // Reads the samples of an area into a picture. What the three lines hold at first doesn't count.
-fn decode_rows<'a>(
+pub(crate) fn decode_rows<'a>(
     mut reader: RangeReader<'a>,
     contexts: &mut [States],
     tables: &[[i16; 256]; 5],
