@@ -1,8 +1,11 @@
 -- Areas in turn: what is true of those that are left is true of all.
 use Rattle.std.proofs.Common.{◌≡◌, ℕ, ◌+◌, ◌<◌, ◌≤◌, List, [], ◌∷◌, length, get_or, drop, refl, sym, subst, inl, inr, ℤ}
 use Rattle.std.proofs.lemmas.List.{drop_more, drop_all}
+use Rattle.std.proofs.lemmas.List.Elements.{All-replicate}
+use Rattle.std.specs.Prelude.{All, replicate}
+use Rattle.ffv1_range.specs.Transition.{AllKept}
 use Rattle.ffv1_slice.specs.declared.area.Area.{Area}
-use Rattle.ffv1_slice.specs.Slice.{Decoding, ReadsArea, ReadsAreas, TooLongInArea, TooLongInAreas}
+use Rattle.ffv1_slice.specs.Slice.{Decoding, fresh_contexts, ReadsArea, ReadsAreas, TooLongInArea, TooLongInAreas}
 
 -- From some area on the rest is still to be read.
 pub record AreLeft (tables : List (List ℤ)) (areas : List Area) (i : ℕ) (start now : Decoding) : Type 0 where
@@ -28,3 +31,6 @@ pub all_read : (tables : List (List ℤ)) (areas : List Area) (i : ℕ) (start n
 all_read tables areas i start now over left =
     let P : List Area → Type 0 = λ rest. ReadsAreas tables rest now now in
     left.read now (subst P (sym (drop_all i areas over)) refl)
+
+pub fresh_kept : (table : List ℕ) (count : ℕ) → AllKept table (replicate 32 128) → All (AllKept table) (fresh_contexts count)
+fresh_kept table count kept = All-replicate (AllKept table) count (replicate 32 128) kept

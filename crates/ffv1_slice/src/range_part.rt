@@ -3,7 +3,7 @@ ghost use Rattle.std.specs.Prelude.{◌≡◌, ◌<◌, ◌≤◌, IfOk, OnErr, 
 ghost use Rattle.ffv1_range.specs.Transition.{AllKept};
 ghost use Rattle.ffv1_slice.specs.Reading.{coding, ContextsFit};
 ghost use Rattle.ffv1_slice.specs.Area.{IsWithin, AreWithin};
-ghost use Rattle.ffv1_slice.specs.Slice.{decoding, standing, part, ReadsAreas, TooLongInAreas, ReadsPart, TooLongInPart};
+ghost use Rattle.ffv1_slice.specs.Slice.{decoding, standing, part, fresh_contexts, ReadsAreas, TooLongInAreas, ReadsPart, TooLongInPart};
 
 use crate::area::Area;
 use crate::range_plane::decode_rows;
@@ -68,8 +68,8 @@ pub(crate) fn decode_part<'a>(
     ensures shape { picture.new.shape ≡ picture.old.shape }
     ensures room { scratch.new ≡ scratch.old }
 {
-    let contexts = &mut scratch.contexts.as_mut_slice()[..context_count];
-    contexts.fill(States::fresh());
+    let contexts = scratch.contexts.slice_mut(..context_count);
+    freshen(contexts);
     let after = decode_areas(
         reader,
         contexts,
@@ -81,4 +81,11 @@ pub(crate) fn decode_part<'a>(
         picture,
     )?;
     Ok(after)
+}
+
+// Makes all states fresh.
+fn freshen(contexts: &mut [States])
+    ensures { contexts.new ≡ fresh_contexts (length contexts.old) }
+{
+    contexts.fill(States::fresh());
 }
