@@ -1,5 +1,5 @@
 -- Rectangles of a picture's planes.
-use Rattle.std.specs.Prelude.{ℕ, ◌+◌, ◌≤◌, ◌<◌, List, [], ◌∷◌, All}
+use Rattle.std.specs.Prelude.{ℕ, ◌+◌, ◌≤◌, ◌<◌, List, [], ◌∷◌, All, Option, Some, None}
 use Rattle.pic_planes.specs.Shape.{Layout, plane_count, plane_width, plane_height}
 use Rattle.pic_planes.specs.Picture.{Image, row_of, with_row}
 use Rattle.pic_planes.specs.Bytes.{pasted}
@@ -28,3 +28,8 @@ with_rows image area (row ∷ rows) = with_rows (with_first image area row) (bel
 -- They lie within their planes, and a line of a width is long enough for each.
 abbrev pub AreWithin : Layout → ℕ → List Area → Type 0
 AreWithin shape width areas = All (λ area. IsWithin shape area × (area.width ≤ width)) areas
+
+-- the areas of Cb and Cr, by that of Cb: Cr has the same in its own plane
+abbrev pub chroma_areas : Option Area → List Area
+chroma_areas None = []
+chroma_areas (Some cb) = cb ∷ record cb { plane = 2 } ∷ []

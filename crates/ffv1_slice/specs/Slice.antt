@@ -1,12 +1,18 @@
 -- The samples of a slice, read into a picture. RFC 9043 sections 4.6 and 4.7.
-use Rattle.std.specs.Prelude.{◌≡◌, ◌⊎◌, ℕ, ◌≤◌, ◌<◌, List, [], ◌∷◌, length, replicate, slice_index_or, ℤ}
+use Rattle.std.specs.Prelude.{◌≡◌, ◌⊎◌, ⊤, ℕ, ◌+◌, ◌≤◌, ◌<◌, Result, Ok, Err, List, [], ◌∷◌, length, replicate, slice_index_or, ℤ}
 use Rattle.pic_planes.specs.Picture.{Image, IsPlane, IsRow}
 use Rattle.ffv1_range.specs.Reading.{Reading}
 use Rattle.ffv1_predict.specs.Border.{rows_of_plane}
 use Rattle.ffv1_slice.specs.declared.area.Area.{Area}
+use Rattle.ffv1_slice.specs.declared.area.Areas.{Areas}
+use Rattle.ffv1_slice.specs.declared.range_slice.Quantization.{Quantization}
+use Rattle.ffv1_slice.specs.Room.{Room}
+use Rattle.pic_planes.specs.Shape.{Layout}
+use Rattle.ffv1_slice.specs.declared.fault.SliceFault.{SliceFault}
+use Rattle.ffv1_slice.specs.declared.fault.SliceFault.TheVariants.{Symbol, Overrun}
 use Rattle.ffv1_slice.specs.Order.{InRows}
-use Rattle.ffv1_slice.specs.Reading.{Coding, coding, ReadsSample, TooLongInRows}
-use Rattle.ffv1_slice.specs.Area.{with_rows}
+use Rattle.ffv1_slice.specs.Reading.{Coding, coding, ReadsSample, TooLongInRows, ContextsFit}
+use Rattle.ffv1_slice.specs.Area.{with_rows, AreWithin, chroma_areas}
 
 -- the reader with the states of its contexts, and the picture
 pub record Decoding : Type 0 where
@@ -75,3 +81,38 @@ ReadsPart p old new = (contexts : List (List ℕ)) × ReadsAreas p.tables p.area
 
 abbrev pub TooLongInPart : Part → Standing → Type 0
 TooLongInPart p old = TooLongInAreas p.tables p.areas (begun p old)
+
+-- A slice has two parts: Y, and Cb and Cr, which a grey picture lacks.
+pub record Slice : Type 0 where
+  pub luma : Part
+  pub chroma : Part
+
+-- by the tables of the parts and the areas of the slice
+abbrev pub slice_of : Quantization → Quantization → Areas → Slice
+slice_of luma chroma areas = record {
+  luma = part luma.tables.now luma.context_count (areas.luma ∷ []);
+  chroma = part chroma.tables.now chroma.context_count (chroma_areas areas.chroma);
+}
+
+-- There is a set of states for each context of the tables, and room for so many.
+pub record IsReady (q : Quantization) (room : Room) : Type 0 where
+  pub few : q.context_count ≤ room.contexts
+  pub fits : ContextsFit q.tables.now q.context_count
+
+-- The areas lie within the planes, and there is room for their lines.
+pub record CanHold (shape : Layout) (room : Room) (areas : Areas) : Type 0 where
+  pub luma : AreWithin shape room.width (areas.luma ∷ [])
+  pub chroma : AreWithin shape room.width (chroma_areas areas.chroma)
+
+abbrev pub ReadsSlice : Slice → Standing → Standing → Type 0
+ReadsSlice s old new = (mid : Standing) × ReadsPart s.luma old mid × ReadsPart s.chroma mid new
+
+abbrev pub TooLongInSlice : Slice → Standing → Type 0
+TooLongInSlice s old = TooLongInPart s.luma old ⊎ ((mid : Standing) × ReadsPart s.luma old mid × TooLongInPart s.chroma mid)
+
+-- What the samples of a slice give, from a content of so many bytes: the picture, or the first fault. The coder may take two
+-- bytes more than the content has. RFC 9043 section 3.8.1.1.1.
+abbrev pub Gives : Slice → ℕ → Standing → Image → Result (⊤) SliceFault → Type 0
+Gives s content old image (Ok _) = (new : Standing) × ReadsSlice s old new × (new.image ≡ image) × (new.reading.taken ≤ content + 2)
+Gives s content old image (Err Symbol) = TooLongInSlice s old
+Gives s content old image (Err Overrun) = (new : Standing) × ReadsSlice s old new × (content + 2 < new.reading.taken)

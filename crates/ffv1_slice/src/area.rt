@@ -9,3 +9,10 @@ pub struct Area {
     pub width: u32,
     pub height: u32,
 }
+
+/// The areas of a slice: that of Y, and that of Cb, which Cr has in its own plane.
+#[derive(Clone, Copy, Debug, PartialEq, Eq)]
+pub struct Areas {
+    pub luma: Area,
+    pub chroma: Option<Area>,
+}

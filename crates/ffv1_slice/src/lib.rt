@@ -2,10 +2,14 @@
 #![tactic(auto)]
 
 mod area;
+mod fault;
 mod range_part;
 mod range_plane;
 mod range_row;
+mod range_slice;
 mod scratch;
 
-pub use area::Area;
+pub use area::{Area, Areas};
+pub use fault::{HeaderFault, SliceFault};
+pub use range_slice::{Quantization, decode_slice};
 pub use scratch::Scratch;

@@ -6,7 +6,7 @@ use Rattle.ffv1_slice.specs.declared.area.Area.{Area}
 use Rattle.ffv1_slice.specs.Area.{IsWithin}
 use Rattle.ffv1_slice.specs.Reading.{coding}
 use Rattle.ffv1_slice.specs.Slice.{Decoding, decoding}
-use Rattle.ffv1_slice.proofs.Areas.{all_left, one_read, late_here, all_read}
+use Rattle.ffv1_slice.proofs.InTurn.{all_left, one_read, late_here, all_read}
 use Rattle.ffv1_slice.proofs.range_part.decode_areas.Goals as goal
 
 pub loop-area-init : goal.loop-area-init

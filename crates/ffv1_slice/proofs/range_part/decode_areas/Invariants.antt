@@ -3,7 +3,7 @@ use Rattle.std.specs.Prelude.{All}
 use Rattle.ffv1_range.specs.Transition.{AllKept}
 use Rattle.ffv1_slice.specs.Reading.{coding}
 use Rattle.ffv1_slice.specs.Slice.{decoding}
-use Rattle.ffv1_slice.proofs.Areas.{AreLeft}
+use Rattle.ffv1_slice.proofs.InTurn.{AreLeft}
 use Rattle.ffv1_slice.proofs.range_part.decode_areas.Given as goal
 
 abbrev pub invariant-loop-area : goal.invariant-loop-area

@@ -2,7 +2,7 @@
 use Rattle.std.proofs.Common.{ℕ, List, sym, subst, length}
 use Rattle.std.specs.Prelude.{All}
 use Rattle.ffv1_range.specs.Transition.{AllKept}
-use Rattle.ffv1_slice.proofs.Areas.{fresh_kept}
+use Rattle.ffv1_slice.proofs.InTurn.{fresh_kept}
 use Rattle.ffv1_slice.proofs.range_part.decode_part.Goals as goal
 
 pub decode_areas-requires-clause-kept : goal.decode_areas-requires-clause-kept
