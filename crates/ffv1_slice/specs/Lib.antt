@@ -3,3 +3,5 @@ pub mod Reading
 pub mod Area
 pub mod Slice
 pub mod Room
+pub mod Header
+pub mod Cells

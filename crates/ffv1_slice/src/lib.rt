@@ -2,7 +2,9 @@
 #![tactic(auto)]
 
 mod area;
+mod cells;
 mod fault;
+mod header;
 mod range_part;
 mod range_plane;
 mod range_row;
@@ -11,5 +13,6 @@ mod scratch;
 
 pub use area::{Area, Areas};
 pub use fault::{HeaderFault, SliceFault};
+pub use header::{Grid, Header, read_header};
 pub use range_slice::{Quantization, decode_slice};
 pub use scratch::Scratch;
