@@ -2,3 +2,7 @@
 #![tactic(auto)]
 
 mod chain;
+mod cover;
+mod fault;
+
+pub use fault::DecodeFault;
