@@ -22,7 +22,8 @@ luma_area grid shape h =
       x = x;
       y = y;
       width = cell_start grid.columns shape.width (h.x + h.columns) - x;
-      height = cell_start grid.rows shape.height (h.y + h.rows) - y }
+      height = cell_start grid.rows shape.height (h.y + h.rows) - y;
+    }
 
 -- of Cb: starts are rounded down, and sizes up
 abbrev pub chroma_area : ℕ → ℕ → Area → Area
@@ -31,7 +32,8 @@ chroma_area h v luma = record {
   x = shifted_down luma.x h;
   y = shifted_down luma.y v;
   width = shifted_up luma.width h;
-  height = shifted_up luma.height v }
+  height = shifted_up luma.height v;
+}
 
 abbrev pub with_chroma : Area → Chroma → Areas
 with_chroma luma Grey = record { luma = luma; chroma = None }
