@@ -1,6 +1,6 @@
 //! What goes along a row. RFC 9043 section 3.1.
 ghost use Rattle.std.specs.Prelude.{◌≡◌, ◌+◌, ◌<◌, ℕ, List, length, slice_index};
-ghost use Rattle.ffv1_predict.specs.Border.{left_at, near};
+ghost use Rattle.ffv1_predict.specs.Border.{Rows, rows, left_at, near};
 
 use crate::near::Near;
 
@@ -18,7 +18,7 @@ impl Left {
     pub fn start(above2: &[u8], above: &[u8]) -> Left
         requires some2 { 0 < length above2.now }
         requires some { 0 < length above.now }
-        ensures { (row : List ℕ) → result ≡ left_at above2.now above.now row 0 }
+        ensures { (row : List ℕ) → result ≡ left_at (rows above2.now above.now row) 0 }
     {
         Left {
             ll: 0,
@@ -32,7 +32,7 @@ impl Left {
     pub fn near(self, above2: &[u8], above: &[u8], x: usize) -> Near
         requires column2 { x < length above2.now }
         requires column { x < length above.now }
-        ensures { (row : List ℕ) → self ≡ left_at above2.now above.now row x → result ≡ near above2.now above.now row x }
+        ensures { (row : List ℕ) → self ≡ left_at (rows above2.now above.now row) x → result ≡ near (rows above2.now above.now row) x }
     {
         let right = (x + 1).min(above.len() - 1);
         Near {
@@ -48,7 +48,7 @@ impl Left {
     /// What goes along to the next column, once the sample is known.
     #[inline]
     pub fn after(seen: Near, sample: u8) -> Left
-        ensures { (above2 above row : List ℕ) (x : ℕ) → seen ≡ near above2 above row x → sample ≡ slice_index row x → result ≡ left_at above2 above row (x + 1) }
+        ensures { (r : Rows) (x : ℕ) → seen ≡ near r x → sample ≡ slice_index r.row x → result ≡ left_at r (x + 1) }
     {
         Left {
             ll: seen.l,

@@ -3,11 +3,11 @@ use Rattle.std.specs.Prelude.{◌≡◌, ℕ, ◌*◌, ◌^◌, ◌<◌, ◌≤�
 use Rattle.tl_limits.specs.Limits.{max_slices}
 use Rattle.pic_planes.specs.declared.shape.Chroma.{Chroma}
 use Rattle.pic_planes.specs.Shape.{AreShifts}
-use Rattle.ffv1_range.specs.declared.transition.TheConstants.{USUAL}
+use Rattle.ffv1_range.specs.declared.transition.TheConstants.{DEFAULT_TRANSITION}
 use Rattle.ffv1_range.specs.Transition.{IsTransition}
 use Rattle.ffv1_record.specs.Tables.{TableSet, set_of, AreSets}
 
--- `transition` is the whole table of states after a bit 1: that of `coder_type` 2, else the usual one. `columns` and `rows` are
+-- `transition` is the whole table of states after a bit 1: that of `coder_type` 2, else the default one. `columns` and `rows` are
 -- num_h_slices and num_v_slices.
 pub record Parameters : Type 0 where
   pub coder_type : ℕ
@@ -46,7 +46,7 @@ pub record IsGrid (columns rows : ℕ) : Type 0 where
 pub record IsTableFor (coder_type : ℕ) (transition : List ℕ) : Type 0 where
   pub coder : coder_type ≤ 2
   pub sound : IsTransition transition
-  pub usual : coder_type < 2 → transition ≡ USUAL
+  pub default : coder_type < 2 → transition ≡ DEFAULT_TRANSITION
   pub states : coder_type ≡ 2 → All (λ state. 0 < state) (drop 1 transition)
 
 -- what a configuration record can have

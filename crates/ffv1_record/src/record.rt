@@ -15,7 +15,7 @@ use crate::field_reader::FieldReader;
 use crate::field_writer::FieldWriter;
 use crate::law::record_reads_back;
 use crate::tables::TableSet;
-use ffv1_range::{Transition, USUAL};
+use ffv1_range::{DEFAULT_TRANSITION, Transition};
 use pic_planes::{Chroma, Shape, shifted_down, shifted_up};
 use std::alloc::{AllocError, Global};
 use std::marker::Model;
@@ -71,8 +71,8 @@ impl Record {
         if big_u32(last) != parity(content) {
             return Err(RecordFault::Parity);
         }
-        let usual = Transition::usual();
-        let mut fields = FieldReader::over(content, &usual);
+        let default = Transition::default_table();
+        let mut fields = FieldReader::over(content, &default);
         Record::from_fields(alloc, &mut fields)
     }
 
@@ -83,8 +83,8 @@ impl Record {
         ensures read_back { IfOk result (λ bytes. parameters bytes.items ≡ Ok self.now) }
     {
         record_reads_back();
-        let usual = Transition::usual();
-        let mut fields = FieldWriter::start(alloc, &usual);
+        let default = Transition::default_table();
+        let mut fields = FieldWriter::start(alloc, &default);
         let sets = self.sets.len() as u32;
         fields.coding(self.coder_type, &self.table)?;
         fields.planes(self.chroma)?;
@@ -122,7 +122,7 @@ impl Record {
 }
 
 impl Record {
-    /// A record of the usual state transition table, with error correction and key frames only.
+    /// A record of the default state transition table, with error correction and key frames only.
     pub(crate) fn of_fields(
         coder: Coder,
         chroma: Chroma,
@@ -133,11 +133,11 @@ impl Record {
         requires chroma { AreShifts chroma }
         requires grid { IsGrid columns rows }
         requires sets { AreSets sets.items }
-        ensures { result ≡ parameters_of (coder_type_of coder) USUAL chroma columns rows sets.items true 1 }
+        ensures { result ≡ parameters_of (coder_type_of coder) DEFAULT_TRANSITION chroma columns rows sets.items true 1 }
     {
         Record {
             coder_type: coder_type_of(coder),
-            table: Transition::usual(),
+            table: Transition::default_table(),
             chroma,
             columns,
             rows,
