@@ -1,5 +1,6 @@
 -- The fields of a configuration record. RFC 9043 section 4.2.
-use Rattle.std.specs.Prelude.{◌≡◌, ℕ, ◌*◌, ◌^◌, ◌<◌, ◌≤◌, Bool, List, drop, map, All}
+use Rattle.std.specs.Prelude.{◌≡◌, ℕ, ◌*◌, ◌^◌, ◌<◌, ◌≤◌, Bool, List, [], drop, map, slice_index, slice_index_or, All, ℤ}
+use Rattle.tl_limits.specs.Limits.{max_slices}
 use Rattle.pic_planes.specs.declared.shape.Chroma.{Chroma}
 use Rattle.pic_planes.specs.Shape.{AreShifts}
 use Rattle.ffv1_range.specs.declared.transition.TheConstants.{USUAL}
@@ -28,11 +29,18 @@ parameters_of coder_type transition chroma columns rows sets ec intra =
 abbrev pub runs_of : Parameters → List (List (List ℕ))
 runs_of p = map (λ set. set.runs) p.sets
 
+-- the entries of the tables of a set, and how many contexts they give
+abbrev pub tables_of : Parameters → ℕ → List (List ℤ)
+tables_of p set = slice_index_or (map (λ s. s.tables) p.sets) set []
+
+abbrev pub context_count_of : Parameters → ℕ → ℕ
+context_count_of p set = slice_index (map (λ s. s.context_count) p.sets) set
+
 -- the grid of slices
 pub record IsGrid (columns rows : ℕ) : Type 0 where
   pub some_columns : 1 ≤ columns
   pub some_rows : 1 ≤ rows
-  pub few : columns * rows ≤ 1024
+  pub few : columns * rows ≤ max_slices
 
 -- the table of the states after a bit 1, for this coder type
 pub record IsTableFor (coder_type : ℕ) (transition : List ℕ) : Type 0 where

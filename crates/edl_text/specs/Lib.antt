@@ -1,0 +1,4 @@
+pub mod Row
+pub mod Line
+pub mod List
+pub mod Names

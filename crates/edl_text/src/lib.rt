@@ -1,0 +1,16 @@
+//! Edit lists of the form CMX 3600: a text is read into its title and its video events, and written again.
+#![tactic(auto)]
+
+mod assembly;
+mod event;
+mod fault;
+mod label;
+mod line;
+mod names;
+mod reading;
+mod row;
+
+pub use event::{Edl, Event, Events};
+pub use fault::{EdlFault, EdlWhy};
+pub use label::Text;
+pub use reading::read_edl;
