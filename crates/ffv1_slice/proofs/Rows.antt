@@ -64,3 +64,8 @@ pub none_at : (tables : List (List ℤ)) (r : Rows) (x : ℕ) (n : Near) (old ne
     → difference_at old (context tables n) ≡ (None, new) → difference_at old (context tables (near r x)) ≡ (None, new)
 none_at tables r x n old new seen none =
     let P : Near → Type 0 = λ v. difference_at old (context tables v) ≡ (None, new) in subst P seen none
+
+-- one more sample of a row that is known
+pub next_sample : {S : Type 0} (step : Near → ℕ → S → S → Type 0) (r : Rows) (x : ℕ) (start old new : S)
+    → InRow step r x start old → step (near r x) (slice_index r.row x) old new → InRow step r (x + 1) start new
+next_sample step r x start old new done here = rw add-one (old, done, here)

@@ -3,6 +3,9 @@
 
 mod area;
 mod cells;
+mod encode_part;
+mod encode_plane;
+mod encode_row;
 mod fault;
 mod header;
 mod range_part;
@@ -12,6 +15,7 @@ mod range_slice;
 mod scratch;
 
 pub use area::{Area, Areas};
+pub use encode_part::encode_slice;
 pub use fault::{HeaderFault, SliceFault};
 pub use header::{Grid, Header, read_header};
 pub use range_slice::{Quantization, decode_slice};
