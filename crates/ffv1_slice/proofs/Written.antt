@@ -1,9 +1,8 @@
 -- An area that is being written, row by row: what is true of the rows that are left is true of all.
-use Rattle.std.proofs.Common.{◌≡◌, ℕ, zero, suc, ◌+◌, ◌-◌, ◌<◌, ◌≤◌, List, [], ◌∷◌, length, replicate, refl, sym, ap, subst, arith, ℤ}
+use Rattle.std.proofs.Common.{◌≡◌, ℕ, zero, suc, ◌+◌, ◌<◌, ◌≤◌, List, length, replicate, refl, sym, subst, arith, ℤ}
 use Rattle.pic_planes.specs.Picture.{Image}
 use Rattle.ffv1_predict.specs.Border.{rows, rows_below}
 use Rattle.ffv1_slice.specs.declared.area.Area.{Area}
-use Rattle.ffv1_slice.specs.Area.{below}
 use Rattle.ffv1_slice.specs.Order.{InRow, InRows}
 use Rattle.ffv1_slice.specs.Writing.{Encoding, WritesSample, samples, samples_from, first_samples}
 

@@ -1,5 +1,5 @@
 -- The differences of a slice, written by the range coder. RFC 9043 sections 3.8.1.2 and 4.7.
-use Rattle.std.specs.Prelude.{◌≡◌, ℕ, zero, suc, ◌+◌, List, [], ◌∷◌, take, drop, slice_set, ℤ, nat_abs, true}
+use Rattle.std.specs.Prelude.{◌≡◌, ℕ, zero, suc, List, [], ◌∷◌, take, drop, slice_set, ℤ, nat_abs, true}
 use Rattle.ffv1_range.specs.Writing.{Writing, put_all}
 use Rattle.ffv1_range.specs.Symbol.{spelling, with_states, set_after}
 use Rattle.pic_planes.specs.Picture.{Image, row_of}

@@ -22,3 +22,6 @@ pub use header::{Grid, Header, read_header};
 pub use header_writer::write_header;
 pub use range_slice::{Quantization, decode_slice};
 pub use scratch::Scratch;
+
+#[cfg(test)]
+mod tests;

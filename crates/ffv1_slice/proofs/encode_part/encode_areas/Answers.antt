@@ -1,5 +1,5 @@
 -- An area more is written.
-use Rattle.std.proofs.Common.{◌≡◌, ◌<◌, ◌∙◌, length, refl, arith}
+use Rattle.std.proofs.Common.{◌<◌, ◌∙◌, length, refl, arith}
 use Rattle.ffv1_slice.specs.declared.area.Area.{Area}
 use Rattle.ffv1_slice.specs.Writing.{Encoding, encoding}
 use Rattle.ffv1_slice.proofs.InTurn.{all_unwritten, one_written, all_written}

@@ -1,6 +1,5 @@
 -- A grey slice has one part, another has two.
-use Rattle.std.proofs.Common.{◌≡◌, ℕ, List, [], ◌∷◌, sym, subst}
-use Rattle.ffv1_range.specs.Writing.{Writing}
+use Rattle.std.proofs.Common.{[], ◌∷◌, sym, subst}
 use Rattle.ffv1_slice.specs.declared.area.Area.{Area}
 use Rattle.ffv1_slice.specs.Area.{AreWithin}
 use Rattle.ffv1_slice.specs.Room.{Room}

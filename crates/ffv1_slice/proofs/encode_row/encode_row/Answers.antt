@@ -1,5 +1,5 @@
 -- A sample more is written, from the neighbours that the definition looks up.
-use Rattle.std.proofs.Common.{◌≡◌, ◌∙◌, refl, subst, add-one, slice_index_or}
+use Rattle.std.proofs.Common.{◌≡◌, ◌∙◌, refl, subst, slice_index_or}
 use Rattle.ffv1_predict.specs.declared.near.Near.{Near}
 use Rattle.ffv1_predict.specs.Border.{Rows, rows, near}
 use Rattle.ffv1_slice.specs.Writing.{Encoding, encoding, WritesSample}

@@ -1,5 +1,5 @@
 -- The set that the numbers are written with is fresh.
-use Rattle.std.proofs.Common.{◌≡◌, ℕ, List, [], ◌∷◌, ◌∙◌, ap}
+use Rattle.std.proofs.Common.{ℕ, List, [], ◌∷◌, ◌∙◌, ap}
 use Rattle.ffv1_slice.specs.Header.{Numbering, numbering, with_numbers}
 use Rattle.ffv1_slice.proofs.header_writer.write_header.Goals as goal
 

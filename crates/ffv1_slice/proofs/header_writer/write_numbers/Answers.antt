@@ -1,5 +1,5 @@
 -- A number more is written.
-use Rattle.std.proofs.Common.{◌≡◌, ◌<◌, ◌∙◌, length, refl, sym, ap, arith, get_or}
+use Rattle.std.proofs.Common.{◌≡◌, ◌<◌, ◌∙◌, length, refl, sym, arith, get_or}
 use Rattle.std.proofs.lemmas.List.{at_drop_more, at_drop_all}
 use Rattle.ffv1_slice.specs.Header.{Numbering, numbering, with_number, with_numbers}
 use Rattle.ffv1_slice.proofs.header_writer.write_numbers.Goals as goal
