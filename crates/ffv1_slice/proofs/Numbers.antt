@@ -1,5 +1,5 @@
 -- Numbers in turn: what is true of those that are left is true of all.
-use Rattle.std.proofs.Common.{◌≡◌, ℕ, ◌+◌, ◌<◌, ◌≤◌, List, [], ◌∷◌, ◌++◌, length, take, set, refl, sym, subst, append_assoc}
+use Rattle.std.proofs.Common.{ℕ, List, [], ◌∷◌, ◌++◌, refl, subst, append_assoc}
 use Rattle.std.proofs.lemmas.List.{append-nil}
 use Rattle.ffv1_range.specs.Symbol.{Source}
 use Rattle.ffv1_slice.specs.Header.{ReadsNumber, ReadsUpTo}

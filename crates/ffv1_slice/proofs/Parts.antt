@@ -1,6 +1,9 @@
 -- The parts of a slice, by whether there are chroma planes.
 use Rattle.std.proofs.Common.{◌≡◌, ℕ, List, [], ◌∷◌, refl, sym, subst, inr, ℤ, Option, Some, None}
 use Rattle.pic_planes.specs.Shape.{Layout}
+use Rattle.pic_planes.specs.Picture.{Image}
+use Rattle.ffv1_range.specs.Writing.{Writing}
+use Rattle.ffv1_slice.specs.Writing.{WritesPart, WritesSlice}
 use Rattle.ffv1_slice.specs.declared.area.Area.{Area}
 use Rattle.ffv1_slice.specs.Area.{AreWithin, chroma_areas}
 use Rattle.ffv1_slice.specs.Slice.{Part, part, Slice, Standing, ReadsPart, TooLongInPart, ReadsSlice, TooLongInSlice, fresh_contexts}
@@ -32,3 +35,16 @@ pub within_both : (shape : Layout) (width : ℕ) (o : Option Area) (cb : Area) �
     → AreWithin shape width (chroma_areas o) → AreWithin shape width (cb ∷ record cb { plane = 2 } ∷ [])
 within_both shape width o cb some within =
     let P : Option Area → Type 0 = λ v. AreWithin shape width (chroma_areas v) in subst P some within
+
+pub writes_grey : (luma : Part) (image : Image) (tables : List (List ℤ)) (count : ℕ) (o : Option Area) (old mid : Writing)
+    → o ≡ None → WritesPart luma image old mid → WritesSlice (with_chroma luma tables count o) image old mid
+writes_grey luma image tables count o old mid grey writes =
+    let P : Option Area → Type 0 = λ v. WritesSlice (with_chroma luma tables count v) image old mid in
+    subst P (sym grey) (mid, writes, (fresh_contexts count, refl))
+
+pub writes_both : (luma : Part) (image : Image) (tables : List (List ℤ)) (count : ℕ) (o : Option Area) (cb : Area) (old mid new : Writing)
+    → o ≡ Some cb → WritesPart luma image old mid → WritesPart (part tables count (cb ∷ record cb { plane = 2 } ∷ [])) image mid new
+    → WritesSlice (with_chroma luma tables count o) image old new
+writes_both luma image tables count o cb old mid new some writes more =
+    let P : Option Area → Type 0 = λ v. WritesSlice (with_chroma luma tables count v) image old new in
+    subst P (sym some) (mid, writes, more)

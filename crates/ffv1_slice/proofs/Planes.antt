@@ -1,17 +1,13 @@
 -- An area that is being filled, row by row: what is true of the rows that are left is true of all.
-use Rattle.std.proofs.Common.{◌≡◌, ℕ, zero, suc, ◌+◌, ◌<◌, ◌≤◌, List, [], ◌∷◌, ◌++◌, length, get_or, replicate, refl, sym, ◌∙◌, ap, subst, arith, append_assoc, length-append, inl, inr, ℤ, pos}
-use Rattle.std.specs.Prelude.{slice_index_or, All}
-use Rattle.ffv1_range.specs.Transition.{AllKept}
-use Rattle.ffv1_range.specs.Reading.{Reading}
+use Rattle.std.proofs.Common.{◌≡◌, ℕ, zero, suc, ◌+◌, ◌<◌, List, [], ◌∷◌, ◌++◌, length, replicate, refl, ◌∙◌, ap, subst, arith, append_assoc, length-append, inr, ℤ}
+use Rattle.std.specs.Prelude.{slice_index_or}
 use Rattle.std.proofs.lemmas.List.{append-nil}
-use Rattle.pic_planes.specs.Picture.{Image, IsRow, IsPlane}
-use Rattle.pic_planes.specs.Shape.{Layout}
-use Rattle.ffv1_predict.specs.Border.{Rows, rows, rows_below}
+use Rattle.pic_planes.specs.Picture.{Image, IsRow}
+use Rattle.ffv1_predict.specs.Border.{rows, rows_below}
 use Rattle.ffv1_slice.specs.declared.area.Area.{Area}
 use Rattle.ffv1_slice.specs.Area.{with_rows, with_first, below}
 use Rattle.ffv1_slice.specs.Order.{InRow, InRows}
-use Rattle.ffv1_slice.specs.Reading.{Coding, coding, ReadsSample, TooLongInRow, TooLongInRows}
-use Rattle.ffv1_slice.specs.Slice.{IsFront}
+use Rattle.ffv1_slice.specs.Reading.{Coding, ReadsSample, TooLongInRows}
 
 -- where the rows of an area begin after some of them
 abbrev pub after_rows : Area → ℕ → Area

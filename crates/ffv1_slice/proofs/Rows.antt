@@ -1,11 +1,11 @@
 -- A row that is being filled: what was done for the samples before a column stays true of it.
-use Rattle.std.proofs.Common.{◌≡◌, ◌≢◌, ℕ, zero, suc, ◌+◌, ◌<◌, List, length, get_or, refl, sym, ◌∙◌, ap, subst, arith, add-one, get_or-set_other, get_or-set_same, ℤ, Option, Some, None}
+use Rattle.std.proofs.Common.{◌≡◌, ◌≢◌, ℕ, zero, suc, ◌+◌, ◌<◌, List, length, refl, sym, ◌∙◌, ap, subst, arith, add-one, get_or-set_other, get_or-set_same, ℤ, None}
 use Rattle.std.specs.Prelude.{slice_index, slice_set}
 use Rattle.ffv1_predict.specs.declared.near.Near.{Near}
-use Rattle.ffv1_predict.specs.Near.{context, IsRestored}
-use Rattle.ffv1_predict.specs.Border.{Rows, rows, near, left, left2, right, left_at}
+use Rattle.ffv1_predict.specs.Near.{context}
+use Rattle.ffv1_predict.specs.Border.{Rows, rows, near, left, left2, right}
 use Rattle.ffv1_slice.specs.Order.{InRow}
-use Rattle.ffv1_slice.specs.Reading.{Coding, difference_at, ReadsSample}
+use Rattle.ffv1_slice.specs.Reading.{Coding, difference_at}
 
 -- Two rows have the same samples before a column.
 abbrev pub AgreeBelow : List ℕ → List ℕ → ℕ → Type 0
@@ -64,3 +64,8 @@ pub none_at : (tables : List (List ℤ)) (r : Rows) (x : ℕ) (n : Near) (old ne
     → difference_at old (context tables n) ≡ (None, new) → difference_at old (context tables (near r x)) ≡ (None, new)
 none_at tables r x n old new seen none =
     let P : Near → Type 0 = λ v. difference_at old (context tables v) ≡ (None, new) in subst P seen none
+
+-- one more sample of a row that is known
+pub next_sample : {S : Type 0} (step : Near → ℕ → S → S → Type 0) (r : Rows) (x : ℕ) (start old new : S)
+    → InRow step r x start old → step (near r x) (slice_index r.row x) old new → InRow step r (x + 1) start new
+next_sample step r x start old new done here = rw add-one (old, done, here)

@@ -1,8 +1,9 @@
 -- Slice headers. RFC 9043 section 4.6. Nine unsigned symbols are read with one set of states: slice_x, slice_y, slice_width less 1,
 -- slice_height less 1, the two quant_table_set_index, picture_structure, sar_num and sar_den.
-use Rattle.std.specs.Prelude.{◌≡◌, ◌⊎◌, ℕ, ◌+◌, ◌≤◌, ◌<◌, List, [], ◌∷◌, length, slice_index, pos, false, Some, None, Result, Ok, Err}
+use Rattle.std.specs.Prelude.{◌≡◌, ◌⊎◌, ℕ, ◌+◌, ◌≤◌, ◌<◌, List, [], ◌∷◌, length, slice_index, replicate, pos, false, Some, None, Result, Ok, Err}
 use Rattle.ffv1_range.specs.Reading.{Reading}
-use Rattle.ffv1_range.specs.Symbol.{Source, symbol_at}
+use Rattle.ffv1_range.specs.Symbol.{Source, symbol_at, spelling, with_states, set_after}
+use Rattle.ffv1_range.specs.Writing.{Writing, put_all}
 use Rattle.ffv1_slice.specs.declared.header.Grid.{Grid}
 use Rattle.ffv1_slice.specs.declared.header.Header.{Header}
 use Rattle.ffv1_slice.specs.declared.fault.HeaderFault.{HeaderFault}
@@ -62,3 +63,25 @@ Gives grid old reading (Err BadHeader) =
     TooLongInNumbers 9 old reading ⊎ ((numbers : List ℕ) × (length numbers ≡ 9) × ReadsNumbers numbers old reading × PassesGrid grid numbers)
 Gives grid old reading (Err TableIndex) =
     (numbers : List ℕ) × (length numbers ≡ 9) × ReadsNumbers numbers old reading × IsWithinGrid grid numbers × PassesSets grid numbers
+
+-- what was written, and the set of states that the next number is written with
+pub record Numbering : Type 0 where
+  pub writing : Writing
+  pub set : List ℕ
+
+abbrev pub numbering : Writing → List ℕ → Numbering
+numbering writing set = record { writing = writing; set = set }
+
+unfoldable pub with_number : Numbering → ℕ → Numbering
+with_number n number =
+    numbering
+    (put_all n.writing (with_states n.writing.table n.set (spelling (pos number) false)))
+    (set_after n.writing.table n.set (spelling (pos number) false))
+
+abbrev pub with_numbers : Numbering → List ℕ → Numbering
+with_numbers n [] = n
+with_numbers n (number ∷ more) = with_numbers (with_number n number) more
+
+-- the header of a slice of one cell, behind what was written: both sets are the first, and the last three numbers are 0
+abbrev pub with_header : Writing → ℕ → ℕ → Writing
+with_header w x y = (with_numbers (numbering w (replicate 32 128)) (x ∷ y ∷ 0 ∷ 0 ∷ 0 ∷ 0 ∷ 0 ∷ 0 ∷ 0 ∷ [])).writing

@@ -5,3 +5,4 @@ pub mod Slice
 pub mod Room
 pub mod Header
 pub mod Cells
+pub mod Writing

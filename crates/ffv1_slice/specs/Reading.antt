@@ -2,7 +2,6 @@
 use Rattle.std.specs.Prelude.{◌≡◌, ◌⊎◌, ℕ, ◌<◌, List, [], ◌∷◌, length, slice_index_or, slice_set, ℤ, nat_abs, true, Option, Some, None}
 use Rattle.ffv1_range.specs.Reading.{Reading}
 use Rattle.ffv1_range.specs.Symbol.{Source, source, symbol_at}
-use Rattle.ffv1_range.specs.Transition.{AllKept}
 use Rattle.ffv1_predict.specs.declared.near.Near.{Near}
 use Rattle.ffv1_predict.specs.Near.{context, IsRestored}
 use Rattle.ffv1_predict.specs.Border.{Rows, near}

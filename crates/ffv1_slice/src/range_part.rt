@@ -84,7 +84,7 @@ pub(crate) fn decode_part<'a>(
 }
 
 // Makes all states fresh.
-fn freshen(contexts: &mut [States])
+pub(crate) fn freshen(contexts: &mut [States])
     ensures { contexts.new ≡ fresh_contexts (length contexts.old) }
 {
     contexts.fill(States::fresh());

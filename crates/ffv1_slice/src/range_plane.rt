@@ -45,7 +45,7 @@ pub(crate) fn decode_rows<'a>(
 }
 
 // The row below an area.
-fn bottom_of(area: Area, picture: &Picture) -> u32
+pub(crate) fn bottom_of(area: Area, picture: &Picture) -> u32
     requires { IsWithin picture.now.shape area }
     ensures { result ≡ area.y + area.height }
 {

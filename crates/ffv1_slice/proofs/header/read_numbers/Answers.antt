@@ -1,11 +1,11 @@
 -- A number more is read.
-use Rattle.std.proofs.Common.{◌≡◌, ◌+◌, ◌<◌, ◌∙◌, ℕ, List, ◌∷◌, ◌++◌, [], take, length, slice_set, refl, sym, subst, arith}
+use Rattle.std.proofs.Common.{◌≡◌, ◌+◌, ◌<◌, ◌∙◌, ℕ, List, ◌∷◌, ◌++◌, [], take, length, slice_set, refl, subst, arith}
 use Rattle.std.proofs.lemmas.List.{take_more_set, take_all, length-take}
 use Rattle.std.proofs.Math.ListN.{length-set}
 use Rattle.std.proofs.lemmas.Result.{err_from_is_err_and}
 use Rattle.ffv1_range.specs.Symbol.{Source, source}
 use Rattle.ffv1_slice.specs.Header.{ReadsNumbers}
-use Rattle.ffv1_slice.proofs.Numbers.{AreRead, none_read, number_more, all_read}
+use Rattle.ffv1_slice.proofs.Numbers.{none_read, number_more, all_read}
 use Rattle.ffv1_slice.proofs.header.read_numbers.Goals as goal
 
 pub loop-place-init : goal.loop-place-init

@@ -1,5 +1,5 @@
-use Rattle.std.proofs.Common.{◌≡◌, ℕ, List, ◌++◌, take, length}
-use Rattle.ffv1_range.specs.Symbol.{Source, source}
+use Rattle.std.proofs.Common.{◌≡◌, take, length}
+use Rattle.ffv1_range.specs.Symbol.{source}
 use Rattle.ffv1_range.specs.Transition.{AllKept}
 use Rattle.ffv1_slice.proofs.Numbers.{AreRead}
 use Rattle.ffv1_slice.proofs.header.read_numbers.Given as goal

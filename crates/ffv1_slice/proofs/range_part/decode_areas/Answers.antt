@@ -1,9 +1,7 @@
 -- An area more is read.
-use Rattle.std.proofs.Common.{◌≡◌, ◌<◌, ◌∙◌, length, refl, sym, arith, slice_index_or}
-use Rattle.std.specs.Prelude.{All}
+use Rattle.std.proofs.Common.{◌<◌, ◌∙◌, length, refl, arith}
 use Rattle.std.proofs.lemmas.Result.{err_from_is_err_and}
 use Rattle.ffv1_slice.specs.declared.area.Area.{Area}
-use Rattle.ffv1_slice.specs.Area.{IsWithin}
 use Rattle.ffv1_slice.specs.Reading.{coding}
 use Rattle.ffv1_slice.specs.Slice.{Decoding, decoding}
 use Rattle.ffv1_slice.proofs.InTurn.{all_left, one_read, late_here, all_read}

@@ -1,5 +1,5 @@
 -- The states are fresh, and so the table keeps them.
-use Rattle.std.proofs.Common.{ℕ, List, sym, subst, length}
+use Rattle.std.proofs.Common.{ℕ, List, sym, subst}
 use Rattle.std.specs.Prelude.{All}
 use Rattle.ffv1_range.specs.Transition.{AllKept}
 use Rattle.ffv1_slice.proofs.InTurn.{fresh_kept}

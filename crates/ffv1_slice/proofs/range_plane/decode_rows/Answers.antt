@@ -1,8 +1,8 @@
 -- One row more of the area stands in the picture.
-use Rattle.std.proofs.Common.{rules, ◌≡◌, ◌+◌, ◌<◌, ◌≤◌, ℕ, List, [], ◌∷◌, ◌++◌, length, refl, sym, ◌∙◌, ap, subst, arith, length-append, inl}
+use Rattle.std.proofs.Common.{rules, ◌≡◌, ◌+◌, ℕ, List, [], ◌∷◌, ◌++◌, length, sym, ◌∙◌, ap, arith, length-append, inl}
 use Rattle.std.proofs.lemmas.Result.{err_from_is_err_and}
 use Rattle.pic_planes.specs.Picture.{Image, IsRow}
-use Rattle.ffv1_slice.specs.Area.{with_rows, with_first}
+use Rattle.ffv1_slice.specs.Area.{with_first}
 use Rattle.ffv1_slice.specs.Reading.{Coding, coding}
 use Rattle.ffv1_slice.proofs.Planes.{AreDone, after_rows, one_done, put_more, each_more, all_done, all_put}
 use Rattle.ffv1_slice.proofs.range_plane.decode_rows.Goals as goal

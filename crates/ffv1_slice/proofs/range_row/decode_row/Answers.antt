@@ -2,9 +2,8 @@
 use Rattle.std.proofs.Common.{◌≡◌, ◌<◌, ◌∙◌, length, refl, subst, arith, slice_set}
 use Rattle.std.proofs.lemmas.Result.{err_from_is_err_and}
 use Rattle.ffv1_predict.specs.declared.near.Near.{Near}
-use Rattle.ffv1_predict.specs.Near.{context}
 use Rattle.ffv1_predict.specs.Border.{Rows, rows, near}
-use Rattle.ffv1_slice.specs.Reading.{Coding, coding, difference_at, ReadsSample}
+use Rattle.ffv1_slice.specs.Reading.{Coding, coding, ReadsSample}
 use Rattle.ffv1_slice.proofs.Rows.{one_more, left_more, set_here, none_at}
 use Rattle.ffv1_slice.proofs.range_row.decode_row.Goals as goal
 

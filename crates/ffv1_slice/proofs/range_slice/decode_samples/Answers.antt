@@ -1,5 +1,5 @@
 -- A grey slice has one part, another has two.
-use Rattle.std.proofs.Common.{◌≡◌, ℕ, List, [], ◌∷◌, ◌∙◌, sym, subst}
+use Rattle.std.proofs.Common.{List, [], ◌∷◌, sym, subst}
 use Rattle.std.proofs.lemmas.Result.{err_from_is_err_and}
 use Rattle.pic_planes.specs.Shape.{Layout}
 use Rattle.ffv1_slice.specs.declared.area.Area.{Area}

@@ -1,5 +1,5 @@
 -- The areas lie within the planes.
-use Rattle.std.proofs.Common.{rules, ap, arith}
+use Rattle.std.proofs.Common.{rules, ap}
 use Rattle.ffv1_slice.proofs.CellLemmas.{hold_both}
 use Rattle.ffv1_slice.proofs.header.Header.areas.Goals as goal
 
