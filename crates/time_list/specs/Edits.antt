@@ -1,5 +1,5 @@
 -- What each edit would make of a timeline, and what it takes for that.
-use Rattle.std.specs.Prelude.{ℕ, suc, ◌+◌, ◌-◌, ◌==◌, nat_lt, nat_le, min, ℤ, pos, negsuc, if◌then◌else◌, not, Bool, true, false, ◌||◌, List, [], ◌∷◌, ◌++◌, length, map, take, drop, Option, Some, None}
+use Rattle.std.specs.Prelude.{ℕ, ◌+◌, ◌-◌, ◌==◌, nat_lt, nat_le, min, ℤ, pos, negsuc, if◌then◌else◌, not, Bool, true, false, ◌||◌, List, [], ◌∷◌, ◌++◌, length, map, take, drop, Option, Some, None}
 use Rattle.std.specs.List.{list_any, flat_map}
 use Rattle.tl_limits.specs.Limits.{max_mix}
 use Rattle.tl_model.specs.declared.recipe.Side.{Side}
@@ -8,7 +8,7 @@ use Rattle.tl_model.specs.declared.recipe.Mix.{Mix}
 use Rattle.tl_model.specs.declared.segment.Segment.{Segment}
 use Rattle.tl_model.specs.declared.edit.Edit.{Edit}
 use Rattle.tl_model.specs.declared.edit.Edit.TheVariants as edit
-use Rattle.tl_model.specs.Cells.{CellMix, Cell, side_at, run, cells_of, cells}
+use Rattle.tl_model.specs.Cells.{Cell, side_at, run, cells_of, cells}
 use Rattle.time_list.specs.Parts.{is_cut, Parts, parts_at, first_side, last_side}
 
 -- The timeline that an edit would make, the sides of the frames that it takes newly, and what may stand against it:
