@@ -1,1 +1,6 @@
+pub mod Runs
+pub mod Parts
+pub mod Cuts
+pub mod Steps
+pub mod Places
 pub mod Sound

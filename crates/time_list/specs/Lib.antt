@@ -3,3 +3,4 @@ pub mod Edits
 pub mod Patch
 pub mod Apply
 pub mod Pieces
+pub mod Changes
