@@ -1,10 +1,12 @@
 //! Timelines. `Lane` is a timeline seen as a list of cells, one a frame; `ListLane` keeps it as a list of segments.
 #![tactic(auto)]
 
+mod change;
 mod cut;
 mod lane;
 mod patch;
 mod piece;
+mod taken;
 
 pub use lane::{ApplyFault, Lane, keeps_sound, recipe_in};
 pub use patch::Patch;
