@@ -106,11 +106,11 @@ cells-backs (s ∷ ss) at p =
     (λ h z. ap cells (backs_all s ss at h z) ∙ sym (headed-cells (s ∷ ss) p) ∙ ap (λ (k : ℕ). headed (drop k (cells (s ∷ ss)))) (sym z))
     (λ h q. backs_part_cells s ss at h q)
 
-Reaches-less : (s : Side) (a b : ℕ) → b ≤ a → Reaches s a → Reaches s b
+pub Reaches-less : (s : Side) (a b : ℕ) → b ≤ a → Reaches s a → Reaches s b
 Reaches-less side.Black a b h r = tt
 Reaches-less (side.Clip c f) a b h r = omega arith
 
-Reaches-later : (s : Side) (a b c : ℕ) → a + b ≤ c → Reaches s c → Reaches (side_at s a) b
+pub Reaches-later : (s : Side) (a b c : ℕ) → a + b ≤ c → Reaches s c → Reaches (side_at s a) b
 Reaches-later side.Black a b c h r = tt
 Reaches-later (side.Clip d f) a b c h r = omega arith
 
@@ -122,7 +122,7 @@ front_mix_reaches : (m : Option Mix) (len at : ℕ) → IsMixOf len m → IsMixO
 front_mix_reaches None len at h = tt
 front_mix_reaches (Some mix) len at h = (omega arith, Reaches-less mix.from mix.steps (min mix.steps at) (omega arith) h.1)
 
-pub IsPiece-front : (s : Segment) (at : ℕ) → 0 < at → at < s.len → IsPiece s → IsPiece (front_of s at)
+pub IsPiece-front : (s : Segment) (at : ℕ) → 0 < at → at ≤ s.len → IsPiece s → IsPiece (front_of s at)
 IsPiece-front s at p h i = record { formed = (omega arith, front_mix_is s.mix at p i.formed.1); side = Reaches-less s.first s.len at (omega arith) i.side; mix = front_mix_reaches s.mix s.len at i.mix }
 
 by_test : (mix : Mix) (len at : ℕ) (b : Bool) → nat_lt at mix.steps ≡ b → IsMix (Some mix) → IsMixOf len (Some mix) → IsMix (later_mix mix at b) × IsMixOf (len - at) (later_mix mix at b)
@@ -147,7 +147,7 @@ ArePieces-fronts (s ∷ ss) at p =
     at_each at s.len
     (λ h. subst ArePieces (sym (fronts_whole s ss at h)) (p.0, ih))
     (λ h z. subst ArePieces (sym (fronts_none s ss at h z)) tt)
-    (λ h q. subst ArePieces (sym (fronts_part s ss at h q)) (IsPiece-front s at q h p.0, tt))
+    (λ h q. subst ArePieces (sym (fronts_part s ss at h q)) (IsPiece-front s at q (omega arith) p.0, tt))
 
 pub ArePieces-backs : (ss : List Segment) (at : ℕ) → ArePieces ss → ArePieces (backs ss at)
 ArePieces-backs [] at p = tt

@@ -5,4 +5,5 @@ pub mod Steps
 pub mod Places
 pub mod Changed
 pub mod Reasons
+pub mod Reshaped
 pub mod Sound

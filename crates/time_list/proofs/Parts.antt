@@ -14,7 +14,7 @@ use Rattle.time_list.proofs.Runs.{length-run, take-run, drop-run, same_runs}
 pub length-cells_of : (s : Segment) → length (cells_of s) ≡ s.len
 length-cells_of s = length-run (cell_at s) 0 s.len
 
-side_at-side_at : (s : Side) (a b : ℕ) → side_at (side_at s a) b ≡ side_at s (a + b)
+pub side_at-side_at : (s : Side) (a b : ℕ) → side_at (side_at s a) b ≡ side_at s (a + b)
 side_at-side_at side.Black a b = refl
 side_at-side_at (side.Clip c f) a b = ap (side.Clip c) (add_assoc f a b)
 

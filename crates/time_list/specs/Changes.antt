@@ -1,12 +1,15 @@
 -- How a list of segments changes: where it is cut, and which segments come in place of which.
-use Rattle.std.specs.Prelude.{◌≡◌, ℕ, ◌+◌, ◌<◌, ◌≤◌, Bool, List, [], ◌∷◌, ◌++◌, length, take, drop, Option, Some, None, Result, Ok, Err}
+use Rattle.std.specs.Prelude.{◌≡◌, ℕ, ◌+◌, ◌<◌, ◌≤◌, Bool, true, false, List, [], ◌∷◌, ◌++◌, length, take, drop, Option, Some, None, Result, Ok, Err}
 use Rattle.tl_model.specs.Cells.{Cell, cells_of, cells}
 use Rattle.tl_model.specs.Media.{Library}
 use Rattle.tl_model.specs.Segment.{IsPiece, ArePieces}
+use Rattle.tl_limits.specs.Limits.{IsSmall}
+use Rattle.tl_model.specs.Edit.{IsNear}
 use Rattle.tl_model.specs.declared.edit.EditRefusal.{EditRefusal}
+use Rattle.tl_model.specs.declared.edit.EditRefusal.TheVariants as refusal
 use Rattle.tl_model.specs.declared.segment.Segment.{Segment}
 use Rattle.time_list.specs.Apply.{first_of, against, too_large}
-use Rattle.time_list.specs.Edits.{Proposal}
+use Rattle.time_list.specs.Edits.{Proposal, trimmed_in, trimmed_out, slipped, relinked}
 use Rattle.time_list.specs.Patch.{PatchOf, LeadsBack}
 use Rattle.time_list.specs.Pieces.{IsLane}
 use Rattle.time_list.specs.declared.change.Change.{Change}
@@ -15,6 +18,8 @@ use Rattle.time_list.specs.declared.change.Span.{Span}
 use Rattle.time_list.specs.declared.cut.Cut.{Cut}
 use Rattle.time_list.specs.declared.lane.ApplyFault.{ApplyFault}
 use Rattle.time_list.specs.declared.lane.ApplyFault.TheVariants as fault
+use Rattle.time_list.specs.declared.reshape.Reshape.{Reshape}
+use Rattle.time_list.specs.declared.reshape.Reshape.TheVariants as reshape
 
 -- So many frames after the first segment's start lies one of its frames.
 abbrev pub IsInside : ℕ → List Segment → Type 0
@@ -53,6 +58,24 @@ Changes lib items p (Err fault.NoMemory) = Unit {0}
 abbrev pub Reshapes : {F : Type 0} → Library F → Proposal → Result Segment EditRefusal → Type 0
 Reshapes lib p (Ok s) = (first_of (against lib p) ≡ None) × IsPiece s × (cells_of s ≡ p.line)
 Reshapes lib p (Err why) = first_of (against lib p) ≡ Some why
+
+abbrev pub reshaped : Reshape → List Cell → Proposal
+reshaped (reshape.TrimIn by) own = trimmed_in by own
+reshaped (reshape.TrimOut by) own = trimmed_out by own
+reshaped (reshape.Slip by) own = slipped by own
+reshaped (reshape.Relink clip first) own = relinked clip first own
+
+-- The numbers of an edit of a segment's own frames are small.
+abbrev pub IsReshape : Reshape → Type 0
+IsReshape (reshape.TrimIn by) = IsNear by
+IsReshape (reshape.TrimOut by) = IsNear by
+IsReshape (reshape.Slip by) = IsNear by
+IsReshape (reshape.Relink clip first) = IsSmall clip × IsSmall first
+
+-- A segment with fewer frames, which takes none.
+abbrev pub Shortens : Proposal → Result Segment EditRefusal → Type 0
+Shortens p (Ok s) = (p.past_end ≡ false) × IsPiece s × (cells_of s ≡ p.line)
+Shortens p (Err why) = (p.past_end ≡ true) × (why ≡ refusal.PastEnd)
 
 -- The first reason that holds is answered.
 abbrev pub FirstIs : List (Bool × EditRefusal) → Result Unit EditRefusal → Type 0

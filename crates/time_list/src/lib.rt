@@ -6,6 +6,7 @@ mod cut;
 mod lane;
 mod patch;
 mod piece;
+mod reshape;
 mod taken;
 
 pub use lane::{ApplyFault, Lane, keeps_sound, recipe_in};
