@@ -6,4 +6,6 @@ pub mod Places
 pub mod Changed
 pub mod Reasons
 pub mod Reshaped
+pub mod Located
+pub mod Proposed
 pub mod Sound

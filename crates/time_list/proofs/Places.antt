@@ -49,6 +49,27 @@ pub inside_start : (ss : List Segment) → ArePieces ss → IsInside 0 ss
 inside_start [] p = refl
 inside_start (s ∷ ss) p = omega (arith, p.0.formed.0)
 
+-- a place in a segment is before the end
+pub inside_less : (ss : List Segment) (i o : ℕ) → i < length ss → IsInside o (drop i ss) → length (cells (take i ss)) + o < length (cells ss)
+inside_less [] i o h k = absurd (omega arith)
+inside_less (s ∷ ss) zero o h k = let more = length-cells_more s ss in omega (arith, k)
+inside_less (s ∷ ss) (suc i) o h k =
+    let less = inside_less ss i o (omega arith) k in
+    let one = length-cells_more s (take i ss) in
+    let two = length-cells_more s ss in
+    omega arith
+
+pub inside_total : (ss : List Segment) (i o : ℕ) (d : Segment) → i < length ss → o < (get_or ss i d).len → length (cells (take i ss)) + o < length (cells ss)
+inside_total ss i o d h k = inside_less ss i o h (inside_here ss i o d h k)
+
+pub item_len : (ss : List Segment) (i : ℕ) (d : Segment) → i < length ss → (get_or ss i d).len ≤ length (cells ss)
+item_len [] i d h = absurd (omega arith)
+item_len (s ∷ ss) zero d h = let more = length-cells_more s ss in omega arith
+item_len (s ∷ ss) (suc i) d h =
+    let more = length-cells_more s ss in
+    let rest = item_len ss i d (omega arith) in
+    omega arith
+
 -- a place after a segment's start lies in a segment
 pub inside_index : (ss : List Segment) (i o : ℕ) → i ≤ length ss → IsInside o (drop i ss) → 0 < o → i < length ss
 inside_index [] zero o w h p = let e : o ≡ 0 = h in absurd (omega arith)
@@ -86,6 +107,10 @@ backs_start (s ∷ ss) zero o h z = backs_all s ss o h z
 backs_start (s ∷ ss) (suc i) o h z = backs_start ss i o h z
 
 pub ruleset cut_steps = (length_take_more, length_take_all, inside_here, inside_end)
+
+pub ruleset end_steps = (length_take_more, length_take_all, inside_here, inside_end, inside_total)
+
+pub ruleset item_steps = (IsPiece-at, item_len)
 
 pub ruleset start_steps = (inside_start, length_take_all)
 

@@ -54,6 +54,12 @@ Changes lib items p (Ok change) = (first_of (against lib p) ≡ None) × IsChang
 Changes lib items p (Err (fault.Refused why)) = first_of (against lib p) ≡ Some why
 Changes lib items p (Err fault.NoMemory) = Unit {0}
 
+-- The change that a proposal asks for that takes no frames.
+abbrev pub Rearranges : List Segment → Proposal → Result Change ApplyFault → Type 0
+Rearranges items p (Ok change) = (p.past_end ≡ false) × IsChangeTo items p.line change
+Rearranges items p (Err (fault.Refused why)) = (p.past_end ≡ true) × (why ≡ refusal.PastEnd)
+Rearranges items p (Err fault.NoMemory) = Unit {0}
+
 -- A segment in place of another, as a proposal for its own cells asks for.
 abbrev pub Reshapes : {F : Type 0} → Library F → Proposal → Result Segment EditRefusal → Type 0
 Reshapes lib p (Ok s) = (first_of (against lib p) ≡ None) × IsPiece s × (cells_of s ≡ p.line)

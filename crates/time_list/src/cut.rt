@@ -1,6 +1,6 @@
 //! A list of segments, searched and cut at a frame.
 
-ghost use Rattle.std.specs.Prelude.{◌≡◌, ◌+◌, ◌<◌, ◌≤◌, ◌^◌, ◌++◌, length, drop, slice_get, Some, MatchOption, IfOk, OnOk};
+ghost use Rattle.std.specs.Prelude.{◌≡◌, ◌+◌, ◌<◌, ◌≤◌, ◌^◌, ◌++◌, min, length, drop, slice_get, Some, MatchOption, IfOk, OnOk};
 ghost use Rattle.tl_model.specs.Cells.{cells, recipes, is_among};
 ghost use Rattle.tl_model.specs.Segment.{ArePieces};
 ghost use Rattle.time_list.specs.Changes.{IsInside, IsCutAt};
@@ -149,5 +149,35 @@ pub(crate) fn push_back(
         Ok(cut.index + 1)
     } else {
         Ok(cut.index)
+    }
+}
+
+/// The place `by` frames after another, or the end where that is nearer.
+#[tactic(auto, using(crate::proofs::Places::end_steps))]
+pub(crate) fn end_after(items: &[Segment], from: Cut, by: u32) -> Cut
+    requires fits { from.start + from.offset + by < 2 ^ 32 }
+    requires cut { IsCutAt items.now (from.start + from.offset) from }
+    ensures cut { IsCutAt items.now (result.start + result.offset) result }
+    ensures order { from.index ≤ result.index }
+    ensures place { result.start + result.offset ≡ min (from.start + from.offset + by) (length (cells items.now)) }
+{
+    let mut start = from.start;
+    let mut offset = from.offset + by;
+    for index in from.index..items.len() {
+        let len = items[index].len;
+        if offset < len {
+            return Cut {
+                index,
+                start,
+                offset,
+            };
+        }
+        start += len;
+        offset -= len;
+    }
+    Cut {
+        index: items.len(),
+        start,
+        offset: 0,
     }
 }

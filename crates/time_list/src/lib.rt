@@ -6,6 +6,7 @@ mod cut;
 mod lane;
 mod patch;
 mod piece;
+mod range;
 mod reshape;
 mod taken;
 

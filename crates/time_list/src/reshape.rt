@@ -147,7 +147,8 @@ fn trim_out<M: Media>(media: &M, segment: &Segment, by: i32) -> Result<Segment, 
 }
 
 fn slip<M: Media>(media: &M, segment: &Segment, by: i32) -> Result<Segment, EditRefusal>
-    requires { IsPiece segment.now }
+    requires piece { IsPiece segment.now }
+    requires near { IsNear by }
     ensures { Reshapes (M.library media.now) (edits.slipped by (cells_of segment.now)) result }
 {
     if by < 0 {
