@@ -6,6 +6,7 @@ pub mod Places
 pub mod Changed
 pub mod Reasons
 pub mod Reshaped
+pub mod Replacing
 pub mod Located
 pub mod Proposed
 pub mod Sound

@@ -18,7 +18,7 @@ any-same p f true from n h = let e = h from in cc
 any-same p f false from zero h = let e = h from in cc
 any-same p f false from (suc n) h = let e = h from in let rest = any-same p f false (from + 1) n h in cc
 
-any-late : {F : Type 0} (lib : Library F) (clip frame from n : ℕ) → clip < lib.clips → list_any (is_late lib) (run (side_at (side.Clip clip frame)) from (suc n)) ≡ nat_lt (lib.frames clip) (frame + (from + suc n))
+pub any-late : {F : Type 0} (lib : Library F) (clip frame from n : ℕ) → clip < lib.clips → list_any (is_late lib) (run (side_at (side.Clip clip frame)) from (suc n)) ≡ nat_lt (lib.frames clip) (frame + (from + suc n))
 any-late lib clip frame from zero h =
     let t : nat_lt clip lib.clips ≡ true = grind (arith, nat_tests) in
     let e : (nat_le (lib.frames clip) (frame + from) || false) ≡ nat_lt (lib.frames clip) (frame + (from + 1)) = grind (arith, nat_tests) in
@@ -76,7 +76,7 @@ can-take lib clip frame skip n early h fits e late =
     cc
 
 -- black is always there
-black-none : {F : Type 0} (lib : Library F) (skip n : ℕ) (p : Side → Bool) → p side.Black ≡ false → list_any p (run (side_at side.Black) skip n) ≡ false
+pub black-none : {F : Type 0} (lib : Library F) (skip n : ℕ) (p : Side → Bool) → p side.Black ≡ false → list_any p (run (side_at side.Black) skip n) ≡ false
 black-none lib skip zero p h = refl
 black-none lib skip (suc n) p h = let rest = black-none lib (skip + 1) n p h in cc
 

@@ -55,6 +55,8 @@ among_all s r =
 
 pub ruleset piece_steps = (among_next, among_end, among_all)
 
+pub ruleset lane_steps = (segment_count-cells)
+
 pub ruleset recipe_steps = (recipe_step_past, recipe_step_inside, length_step, length_end, IsPiece-at)
 
 pub ruleset use_steps = (use_step, use_end, IsPiece-at)

@@ -10,7 +10,7 @@ use Rattle.tl_model.specs.declared.edit.EditRefusal.TheVariants as refusal
 use Rattle.tl_model.specs.declared.segment.Segment.{Segment}
 use Rattle.time_list.specs.Apply.{first_of, against, too_large}
 use Rattle.time_list.specs.Edits.{Proposal, trimmed_in, trimmed_out, slipped, relinked}
-use Rattle.time_list.specs.Patch.{PatchOf, LeadsBack}
+use Rattle.time_list.specs.Patch.{PatchOf, patched, LeadsBack}
 use Rattle.time_list.specs.Pieces.{IsLane}
 use Rattle.time_list.specs.declared.change.Change.{Change}
 use Rattle.time_list.specs.declared.change.Made.{Made}
@@ -99,3 +99,9 @@ abbrev pub Makes : (before after : List Segment) → Result Made ApplyFault → 
 Makes before after (Ok made) = (first_of (too_large (cells after)) ≡ None) × IsMade before after made
 Makes before after (Err (fault.Refused why)) = first_of (too_large (cells after)) ≡ Some why
 Makes before after (Err fault.NoMemory) = Unit {0}
+
+-- A list that was patched, with the patch that leads back.
+pub record IsReverted (reverted : PatchOf) (before : List Segment) (made : Made) : Type 0 where
+  pub line : cells made.items.items ≡ patched reverted (cells before)
+  pub lane : IsLane made.items.items made.frames
+  pub patch : LeadsBack made.patch (patched reverted (cells before)) (cells before)

@@ -4,3 +4,4 @@ pub mod Patch
 pub mod Apply
 pub mod Pieces
 pub mod Changes
+pub mod Found

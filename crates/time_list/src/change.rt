@@ -4,11 +4,12 @@ ghost use Rattle.std.specs.Prelude.{◌≡◌, ◌+◌, ◌-◌, ◌^◌, ◌<�
 ghost use Rattle.tl_limits.specs.Limits.{max_frames, max_segments};
 ghost use Rattle.tl_model.specs.Cells.{cells_of, cells};
 ghost use Rattle.tl_model.specs.Segment.{IsPiece, ArePieces};
-ghost use Rattle.time_list.specs.Changes.{IsCutAt, IsSpan, spliced, IsChangeTo, IsMade, Makes};
+ghost use Rattle.time_list.specs.Changes.{IsCutAt, IsSpan, spliced, IsChangeTo, IsMade, IsReverted, Makes};
 ghost use Rattle.time_list.specs.Edits.{headed};
+ghost use Rattle.time_list.specs.Patch.{IsPatchOf};
 ghost use Rattle.time_list.specs.Pieces.{IsLane};
 
-use crate::cut::{Cut, push_back, push_front};
+use crate::cut::{Cut, cut_after, cut_at, push_back, push_front};
 use crate::lane::ApplyFault;
 use crate::patch::Patch;
 use std::alloc::{AllocError, Global};
@@ -170,4 +171,33 @@ pub(crate) fn make(
         Ok(made) => Ok(made),
         Err(_) => Err(ApplyFault::NoMemory),
     }
+}
+
+/// Puts a patch's segments in their place.
+pub(crate) fn revert(
+    alloc: Global,
+    items: &[Segment],
+    frames: u32,
+    patch: &Patch,
+) -> Result<Made, AllocError>
+    requires lane { IsLane items.now frames }
+    requires fits { IsPatchOf patch.now (cells items.now) }
+    ensures { IfOk result (λ made. IsReverted patch.now items.now made) }
+{
+    let first = match cut_at(items, patch.at()) {
+        Some(cut) => cut,
+        None => unreachable!(),
+    };
+    let last = match cut_after(items, first, patch.count()) {
+        Some(cut) => cut,
+        None => unreachable!(),
+    };
+    let span = Span {
+        at: first.start,
+        from: first.index,
+        to: last.index,
+    };
+    let put = patch.segments();
+    let total = u64::from(frames) - u64::from(patch.count()) + frame_count(put);
+    exchange(alloc, items, span, put, total as u32)
 }
