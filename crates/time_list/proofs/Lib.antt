@@ -9,4 +9,5 @@ pub mod Reshaped
 pub mod Replacing
 pub mod Located
 pub mod Proposed
+pub mod Applying
 pub mod Sound

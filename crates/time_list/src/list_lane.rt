@@ -101,6 +101,7 @@ impl Lane for ListLane {
     /// The recipe of frame `n`. It counts at least one step, and at most one a segment.
     #[tactic(auto, using(crate::proofs::Steps::lane_steps))]
     fn recipe_at<K: Ledger>(&self, n: u32, steps: &mut Steps<K>) -> Recipe
+        requires { n < length self.now }
         ensures recipe { slice_get (recipes self.now) n ≡ Some result }
         ensures counted { steps.old < steps.new }
         ensures few { steps.new ≤ steps.old + segment_count self.now }
