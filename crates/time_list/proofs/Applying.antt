@@ -1,5 +1,5 @@
 -- Edits and patches made on a list of segments, as the definitions have them.
-use Rattle.std.proofs.Common.{inl, inr, ◌≡◌, ℕ, zero, suc, ◌+◌, ◌-◌, ◌<◌, ◌≤◌, min, cond, Bool, true, false, List, [], ◌∷◌, ◌++◌, length, get_or, take, drop, Option, Some, None, refl, sym, ap, ◌∙◌, subst, arith}
+use Rattle.std.proofs.Common.{inl, inr, ◌≡◌, ℕ, ◌+◌, ◌-◌, ◌≤◌, min, Bool, true, false, List, ◌++◌, length, take, drop, Option, Some, None, refl, sym, ap, ◌∙◌, subst, arith}
 use Rattle.std.specs.Prelude.{IsTrue, Result, Ok, Err, IfOk}
 use Rattle.std.proofs.lemmas.Bool.{cases_lt}
 use Rattle.std.proofs.lemmas.List.{length-append, length-drop, length-take-le, append-nil}
@@ -12,10 +12,10 @@ use Rattle.tl_model.specs.declared.recipe.Side.TheVariants as side
 use Rattle.tl_model.specs.declared.segment.Segment.{Segment}
 use Rattle.tl_model.specs.Cells.{Cell, cells, segment_count}
 use Rattle.time_list.specs.Apply.{first_of, against, too_large, unless, apply, Applies}
-use Rattle.time_list.specs.Changes.{IsCutAt, IsSpan, spliced, IsChangeTo, Changes, IsMade, IsReverted, Makes}
+use Rattle.time_list.specs.Changes.{IsCutAt, spliced, Changes, IsMade, IsReverted, Makes}
 use Rattle.time_list.specs.Edits.{proposal}
 use Rattle.time_list.specs.Parts.{is_cut}
-use Rattle.time_list.specs.Patch.{PatchOf, patched, IsPatchOf, LeadsBack, Reverts}
+use Rattle.time_list.specs.Patch.{PatchOf, patched, IsPatchOf, LeadsBack}
 use Rattle.time_list.specs.Pieces.{IsLane}
 use Rattle.time_list.specs.declared.change.Change.{Change}
 use Rattle.time_list.specs.declared.change.Made.{Made}

@@ -5,23 +5,21 @@ use Rattle.std.proofs.lemmas.Bool.Decides.{nat_tests}
 use Rattle.std.proofs.lemmas.Grind.{common_steps}
 use Rattle.std.proofs.lemmas.List.{length-append, length-drop, length-take-le, append-nil, take-append-drop}
 use Rattle.tl_limits.specs.Limits.{max_frames, max_segments}
-use Rattle.tl_model.specs.declared.edit.EditRefusal.{EditRefusal}
 use Rattle.tl_model.specs.declared.edit.EditRefusal.TheVariants as refusal
 use Rattle.tl_model.specs.declared.segment.Segment.{Segment}
 use Rattle.tl_model.specs.Cells.{Cell, cell_at, run, cells_of, cells, segment_count}
 use Rattle.tl_model.specs.Segment.{IsPiece, ArePieces}
 use Rattle.time_list.specs.Apply.{first_of, too_large}
-use Rattle.time_list.specs.Changes.{IsInside, IsCutAt, IsSpan, spliced, IsChangeTo}
+use Rattle.time_list.specs.Changes.{IsCutAt, IsSpan, spliced, IsChangeTo}
 use Rattle.time_list.specs.Edits.{headed}
 use Rattle.time_list.specs.Parts.{begins_segment, is_cut}
-use Rattle.time_list.specs.Patch.{PatchOf, patched, IsPatchOf, LeadsBack}
+use Rattle.time_list.specs.Patch.{PatchOf, patched, LeadsBack}
 use Rattle.time_list.specs.Pieces.{IsLane, fronts, backs}
 use Rattle.time_list.specs.declared.change.Change.{Change}
 use Rattle.time_list.specs.declared.change.Span.{Span}
 use Rattle.time_list.specs.declared.cut.Cut.{Cut}
 use Rattle.time_list.proofs.Runs.{take_over, drop_over}
-use Rattle.time_list.proofs.Parts.{length-cells_of}
-use Rattle.time_list.proofs.Cuts.{cells-append, ArePieces-append, ArePieces-drop, ArePieces-fronts, ArePieces-backs, cells-fronts, cells-backs, segment_count-cells, length-cells_more}
+use Rattle.time_list.proofs.Cuts.{cells-append, ArePieces-append, ArePieces-drop, ArePieces-fronts, ArePieces-backs, cells-fronts, cells-backs, segment_count-cells}
 
 drop-none : {A : Type 0} (n : ℕ) → drop {A = A} n [] ≡ []
 drop-none zero = refl

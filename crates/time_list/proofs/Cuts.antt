@@ -3,7 +3,7 @@ use Rattle.std.proofs.Common.{subst, inl, inr, ◌≡◌, ℕ, zero, suc, ◌+�
 use Rattle.std.specs.Prelude.{nat_lt, nat_le, ◌==◌, slice_get}
 use Rattle.std.proofs.lemmas.Bool.{cases_lt}
 use Rattle.tl_model.specs.Recipe.{same_recipe}
-use Rattle.std.proofs.lemmas.List.{length-map, length-drop, length-take-le, append-nil, length-append, map-append, take-append-le, drop-append-le}
+use Rattle.std.proofs.lemmas.List.{length-map, length-drop, append-nil, length-append, map-append, take-append-le, drop-append-le}
 use Rattle.std.proofs.lemmas.List.Folds.{list_any-append}
 use Rattle.std.proofs.lemmas.List.Sums.{sum_by-cons, sum_by-append}
 use Rattle.std.proofs.lemmas.Bool.Decides.{nat_tests}

@@ -1,18 +1,17 @@
 -- The segment that has a frame, on the cells of a list of segments.
-use Rattle.std.proofs.Common.{◌≡◌, ℕ, zero, suc, ◌+◌, ◌-◌, ◌<◌, ◌≤◌, cond, Bool, true, false, not, ◌||◌, List, [], ◌∷◌, ◌++◌, length, get_or, take, drop, refl, sym, ap, ◌∙◌, subst, append_assoc, arith}
-use Rattle.std.specs.Prelude.{nat_le, ◌==◌}
+use Rattle.std.proofs.Common.{◌≡◌, ℕ, zero, suc, ◌+◌, ◌-◌, ◌<◌, ◌≤◌, cond, Bool, true, false, List, [], ◌∷◌, ◌++◌, length, get_or, take, drop, refl, sym, ap, ◌∙◌, append_assoc, arith}
+use Rattle.std.specs.Prelude.{◌==◌}
 use Rattle.std.proofs.lemmas.Bool.Decides.{nat_tests}
-use Rattle.std.proofs.lemmas.List.{length-append, append-nil, take-append-le, drop-append-le, at_drop_more}
-use Rattle.tl_model.specs.declared.recipe.Side.{Side}
+use Rattle.std.proofs.lemmas.List.{append-nil, take-append-le, drop-append-le, at_drop_more}
 use Rattle.tl_model.specs.declared.segment.Segment.{Segment}
 use Rattle.tl_model.specs.Cells.{Cell, cell_at, run, cells_of, cells}
-use Rattle.tl_model.specs.Segment.{IsPiece, ArePieces}
-use Rattle.time_list.specs.Changes.{IsInside, IsCutAt}
-use Rattle.time_list.specs.Parts.{begins_segment, is_cut, start_of, cells_to_cut, end_of, Parts, parts_of, parts_at, last_side}
+use Rattle.tl_model.specs.Segment.{ArePieces}
+use Rattle.time_list.specs.Changes.{IsCutAt}
+use Rattle.time_list.specs.Parts.{begins_segment, is_cut, start_of, cells_to_cut, end_of, parts_of, parts_at, last_side}
 use Rattle.time_list.specs.declared.cut.Cut.{Cut}
-use Rattle.time_list.proofs.Runs.{length-run, drop-run}
+use Rattle.time_list.proofs.Runs.{drop-run}
 use Rattle.time_list.proofs.Parts.{length-cells_of}
-use Rattle.time_list.proofs.Cuts.{cells-append, ArePieces-drop, IsPiece-at}
+use Rattle.time_list.proofs.Cuts.{ArePieces-drop, IsPiece-at}
 use Rattle.time_list.proofs.Places.{inside_len}
 use Rattle.time_list.proofs.Changed.{take-place, drop-place, begins-cells}
 

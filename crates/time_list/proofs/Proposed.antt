@@ -1,11 +1,11 @@
 -- What the code finds, as the proposals for a timeline have it.
-use Rattle.std.proofs.Common.{inl, inr, ◌≡◌, ℕ, zero, suc, ◌+◌, ◌-◌, ◌<◌, ◌≤◌, min, cond, Bool, true, false, not, ◌||◌, List, [], ◌∷◌, ◌++◌, length, get_or, take, drop, Option, Some, None, refl, sym, ap, ◌∙◌, subst, arith}
+use Rattle.std.proofs.Common.{inl, inr, ◌≡◌, ℕ, zero, suc, ◌+◌, ◌-◌, ◌<◌, ◌≤◌, min, cond, Bool, true, false, not, ◌||◌, List, [], ◌∷◌, ◌++◌, length, get_or, take, drop, Some, refl, sym, ap, ◌∙◌, subst, arith}
 use Rattle.std.specs.Prelude.{nat_lt, nat_le, ◌==◌, Result, Ok, Err}
 use Rattle.std.proofs.lemmas.Bool.{cases_lt}
 use Rattle.std.proofs.lemmas.Bool.Decides.{nat_tests}
 use Rattle.std.proofs.lemmas.List.{append-nil, drop_all}
 use Rattle.tl_model.specs.Media.{Library}
-use Rattle.tl_model.specs.Segment.{IsPiece, ArePieces}
+use Rattle.tl_model.specs.Segment.{ArePieces}
 use Rattle.tl_model.specs.declared.recipe.Side.{Side}
 use Rattle.tl_model.specs.declared.segment.Segment.{Segment}
 use Rattle.tl_model.specs.declared.edit.EditRefusal.{EditRefusal}
@@ -19,7 +19,7 @@ use Rattle.time_list.specs.declared.change.Change.{Change}
 use Rattle.time_list.specs.declared.cut.Cut.{Cut}
 use Rattle.time_list.specs.declared.lane.ApplyFault.{ApplyFault}
 use Rattle.time_list.specs.declared.lane.ApplyFault.TheVariants as fault
-use Rattle.time_list.proofs.Cuts.{length-cells_more, IsPiece-at}
+use Rattle.time_list.proofs.Cuts.{length-cells_more}
 use Rattle.time_list.proofs.Places.{length_take_le, inside_less, inside_len, inside_index}
 use Rattle.time_list.proofs.Located.{located, is_cut-inside, is_cut-start, last_side-before}
 

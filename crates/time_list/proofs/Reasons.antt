@@ -1,12 +1,11 @@
 -- Why frames that follow one another can't be taken.
-use Rattle.std.proofs.Common.{◌≡◌, ℕ, zero, suc, ◌+◌, ◌-◌, ◌<◌, ◌≤◌, cond, Bool, true, false, not, ◌||◌, ◌&&◌, List, [], ◌∷◌, Option, Some, None, refl, sym, ap, ◌∙◌, arith}
+use Rattle.std.proofs.Common.{◌≡◌, ℕ, zero, suc, ◌+◌, ◌-◌, ◌<◌, ◌≤◌, cond, Bool, true, false, not, ◌||◌, ◌&&◌, Some, None, refl, arith}
 use Rattle.std.specs.Prelude.{nat_lt, nat_le}
 use Rattle.std.specs.List.{list_any}
 use Rattle.std.proofs.lemmas.Bool.Decides.{nat_tests}
 use Rattle.tl_model.specs.Media.{Library}
 use Rattle.tl_model.specs.declared.recipe.Side.{Side}
 use Rattle.tl_model.specs.declared.recipe.Side.TheVariants as side
-use Rattle.tl_model.specs.declared.edit.EditRefusal.{EditRefusal}
 use Rattle.tl_model.specs.declared.edit.EditRefusal.TheVariants as refusal
 use Rattle.tl_model.specs.Cells.{side_at, run}
 use Rattle.time_list.specs.Apply.{names_no_clip, differs, is_late, first_of, not_taken}

@@ -8,14 +8,13 @@ use Rattle.std.proofs.lemmas.List.Folds.{list_any-append}
 use Rattle.tl_limits.specs.Limits.{max_mix, timecode_frames}
 use Rattle.tl_model.specs.Edit.{IsSideWithin, IsMixWithin, IsReplacement}
 use Rattle.tl_model.specs.Media.{Library}
-use Rattle.tl_model.specs.Segment.{IsMixOf, Reaches, IsPiece, ArePieces}
+use Rattle.tl_model.specs.Segment.{IsMixOf, Reaches, ArePieces}
 use Rattle.tl_model.specs.declared.recipe.Mix.{Mix}
-use Rattle.tl_model.specs.declared.edit.EditRefusal.{EditRefusal}
 use Rattle.tl_model.specs.declared.edit.EditRefusal.TheVariants as refusal
 use Rattle.tl_model.specs.declared.recipe.Side.{Side}
 use Rattle.tl_model.specs.declared.recipe.Side.TheVariants as side
 use Rattle.tl_model.specs.declared.segment.Segment.{Segment}
-use Rattle.tl_model.specs.Cells.{side_at, run, cells}
+use Rattle.tl_model.specs.Cells.{side_at, cells}
 use Rattle.time_list.specs.Apply.{names_no_clip, differs, is_late, first_of}
 use Rattle.time_list.specs.Edits.{sides_from, sides_of, is_long_mix}
 use Rattle.time_list.specs.Found.{IsFound}

@@ -1,25 +1,25 @@
 -- The cells of a segment that an edit reshapes, and the frames that it takes.
-use Rattle.std.proofs.Common.{◌≡◌, ℕ, zero, suc, ◌+◌, ◌-◌, ◌^◌, ◌<◌, ◌≤◌, min, cond, Bool, true, false, not, ◌||◌, ◌&&◌, ◌⊎◌, List, [], ◌∷◌, ◌++◌, length, map, take, drop, Option, Some, None, refl, sym, ap, ◌∙◌, subst, arith}
+use Rattle.std.proofs.Common.{◌≡◌, ℕ, zero, suc, ◌+◌, ◌-◌, ◌<◌, ◌≤◌, min, cond, Bool, true, false, not, ◌||◌, ◌&&◌, ◌⊎◌, List, [], ◌∷◌, ◌++◌, length, map, take, drop, Option, Some, None, refl, sym, ap, ◌∙◌, subst, arith}
 use Rattle.std.specs.Prelude.{nat_lt, nat_le, ◌==◌, ℤ, pos, negsuc, ◌≤ℤ◌, ◌<ℤ◌, unsigned_abs, Result, Ok, Err}
 use Rattle.std.specs.List.{list_any}
 use Rattle.std.proofs.lemmas.Bool.Decides.{nat_tests}
 use Rattle.std.proofs.lemmas.Int.{ints}
 use Rattle.tl_limits.specs.Limits.{max_mix}
 use Rattle.tl_model.specs.Media.{Library}
-use Rattle.tl_model.specs.Segment.{IsMix, IsMixOf, Reaches, IsPiece}
+use Rattle.tl_model.specs.Segment.{IsMixOf, Reaches, IsPiece}
 use Rattle.tl_model.specs.declared.recipe.Side.{Side}
 use Rattle.tl_model.specs.declared.recipe.Side.TheVariants as side
 use Rattle.tl_model.specs.declared.recipe.Mix.{Mix}
 use Rattle.tl_model.specs.declared.segment.Segment.{Segment}
 use Rattle.tl_model.specs.declared.edit.EditRefusal.{EditRefusal}
 use Rattle.tl_model.specs.declared.edit.EditRefusal.TheVariants as refusal
-use Rattle.tl_model.specs.Cells.{CellMix, Cell, side_at, mix_at, cell_at, run, cells_of}
+use Rattle.tl_model.specs.Cells.{Cell, side_at, mix_at, cell_at, run, cells_of}
 use Rattle.time_list.specs.Apply.{names_no_clip, differs, is_late, first_of, not_taken, against}
-use Rattle.time_list.specs.Edits.{headed, rearranged, shortened_in, shortened_out, trimmed_in, trimmed_out, fresh, plain, sides_from, side_before, side_by, is_early, is_early_by, lengthened_in, lengthened_out, slipped, dissolved, with_dissolve, shown_from, relinked}
+use Rattle.time_list.specs.Edits.{headed, rearranged, shortened_in, shortened_out, trimmed_in, trimmed_out, fresh, plain, sides_from, side_before, is_early, lengthened_in, lengthened_out, slipped, dissolved, with_dissolve, shown_from, relinked}
 use Rattle.time_list.specs.Changes.{Shortens, Reshapes}
 use Rattle.time_list.specs.Parts.{first_side, last_side}
 use Rattle.time_list.specs.Pieces.{front_of, back_of}
-use Rattle.time_list.proofs.Runs.{length-run, same_runs, map-run}
+use Rattle.time_list.proofs.Runs.{same_runs, map-run}
 use Rattle.time_list.proofs.Parts.{length-cells_of, side_at-side_at, cells_of-front, cells_of-back}
 use Rattle.time_list.proofs.Cuts.{Reaches-less, Reaches-later, IsPiece-front, IsPiece-back}
 use Rattle.time_list.proofs.Reasons.{any-same}

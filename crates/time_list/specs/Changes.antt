@@ -1,5 +1,5 @@
 -- How a list of segments changes: where it is cut, and which segments come in place of which.
-use Rattle.std.specs.Prelude.{◌≡◌, ℕ, ◌+◌, ◌<◌, ◌≤◌, Bool, true, false, List, [], ◌∷◌, ◌++◌, length, take, drop, Option, Some, None, Result, Ok, Err}
+use Rattle.std.specs.Prelude.{◌≡◌, ℕ, ◌+◌, ◌<◌, ◌≤◌, Bool, true, false, List, [], ◌∷◌, ◌++◌, length, take, drop, Some, None, Result, Ok, Err}
 use Rattle.tl_model.specs.Cells.{Cell, cells_of, cells}
 use Rattle.tl_model.specs.Media.{Library}
 use Rattle.tl_model.specs.Segment.{IsPiece, ArePieces}

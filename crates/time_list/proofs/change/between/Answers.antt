@@ -1,4 +1,4 @@
-use Rattle.std.proofs.Common.{◌≡◌, List, ◌++◌, drop, refl, ap, ◌∙◌, arith}
+use Rattle.std.proofs.Common.{List, ◌++◌, drop, refl, ap, ◌∙◌, arith}
 use Rattle.tl_model.specs.declared.segment.Segment.{Segment}
 use Rattle.time_list.specs.Pieces.{fronts, backs}
 use Rattle.time_list.proofs.Changed.{between_is}

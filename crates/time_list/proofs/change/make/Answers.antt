@@ -1,4 +1,4 @@
-use Rattle.std.proofs.Common.{◌≡◌, ◌+◌, ◌-◌, ◌≤◌, List, length, min, ap, sym, ◌∙◌, subst, arith}
+use Rattle.std.proofs.Common.{◌≡◌, ◌+◌, ◌-◌, List, length, min, ap, sym, ◌∙◌, subst, arith}
 use Rattle.tl_model.specs.Cells.{cells}
 use Rattle.tl_model.specs.declared.segment.Segment.{Segment}
 use Rattle.time_list.specs.Changes.{spliced, IsMade}

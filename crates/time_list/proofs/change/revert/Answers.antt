@@ -1,4 +1,4 @@
-use Rattle.std.proofs.Common.{◌≡◌, ℕ, ◌+◌, ◌-◌, sym, ap, ◌∙◌, subst, arith}
+use Rattle.std.proofs.Common.{◌≡◌, ℕ, ◌+◌, ◌-◌, subst, arith}
 use Rattle.time_list.specs.Changes.{IsCutAt}
 use Rattle.time_list.proofs.Applying.{patched_is, reverted-lane, reverted_of}
 use Rattle.time_list.proofs.change.revert.Goals as goal

@@ -1,5 +1,5 @@
 use Rattle.std.proofs.Common.{None, ◌∙◌}
-use Rattle.tl_model.specs.Cells.{cells, cells_of}
+use Rattle.tl_model.specs.Cells.{cells_of}
 use Rattle.tl_model.specs.declared.recipe.Side.TheVariants as side
 use Rattle.tl_model.specs.declared.segment.Segment.{Segment}
 use Rattle.time_list.specs.Changes.{reshaped}

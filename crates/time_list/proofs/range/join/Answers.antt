@@ -1,5 +1,5 @@
 use Rattle.std.proofs.Common.{◌<◌, None, ◌∙◌, arith}
-use Rattle.tl_model.specs.Cells.{cells, cells_of}
+use Rattle.tl_model.specs.Cells.{cells_of}
 use Rattle.tl_model.specs.declared.recipe.Side.TheVariants as side
 use Rattle.tl_model.specs.declared.segment.Segment.{Segment}
 use Rattle.time_list.proofs.Proposed.{joined_inside, joined_first, joined_is, joined_line, IsChangeTo-as}

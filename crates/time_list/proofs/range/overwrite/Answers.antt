@@ -1,5 +1,4 @@
-use Rattle.std.proofs.Common.{◌≡◌, ◌+◌, List, ◌++◌, min, length, take, false, [], ap, arith, refl, sym, ◌∙◌}
-use Rattle.std.specs.Prelude.{nat_lt}
+use Rattle.std.proofs.Common.{◌≡◌, ◌+◌, List, ◌++◌, min, length, take, [], ap, arith, sym, ◌∙◌}
 use Rattle.std.proofs.lemmas.List.{append-nil}
 use Rattle.tl_model.specs.Cells.{Cell, cells}
 use Rattle.time_list.specs.Edits.{headed, fresh, sides_from}

@@ -1,4 +1,4 @@
-use Rattle.std.proofs.Common.{◌≡◌, ◌+◌, length, sym, arith}
+use Rattle.std.proofs.Common.{◌≡◌, ◌+◌, length, sym}
 use Rattle.tl_model.specs.Cells.{cells}
 use Rattle.time_list.proofs.Proposed.{IsChangeTo-as, without_as, frame-within, not_past_le}
 use Rattle.time_list.proofs.range.split.Goals as goal

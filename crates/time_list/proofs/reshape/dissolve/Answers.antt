@@ -1,4 +1,4 @@
-use Rattle.std.proofs.Common.{◌≡◌, ℕ, ◌+◌, ◌<◌, ◌≤◌, min, false, inl, inr, Option, sym, ap, ◌∙◌, subst, arith}
+use Rattle.std.proofs.Common.{◌≡◌, ℕ, ◌+◌, min, false, inl, inr, Option, sym, ap, ◌∙◌, subst, arith}
 use Rattle.tl_model.specs.Media.{Library}
 use Rattle.tl_model.specs.Segment.{Reaches}
 use Rattle.tl_model.specs.declared.segment.Segment.{Segment}

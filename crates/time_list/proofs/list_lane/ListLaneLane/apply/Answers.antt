@@ -1,4 +1,4 @@
-use Rattle.std.proofs.Common.{◌≡◌, List, sym, ap, ◌∙◌, subst, Ok, Err}
+use Rattle.std.proofs.Common.{List, sym, ap, ◌∙◌, subst, Err}
 use Rattle.tl_model.specs.Cells.{cells}
 use Rattle.tl_model.specs.declared.segment.Segment.{Segment}
 use Rattle.time_list.specs.Changes.{spliced, Makes}
