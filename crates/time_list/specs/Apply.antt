@@ -1,5 +1,5 @@
 -- What an edit makes of a timeline, or the first reason to refuse it in the order of `EditRefusal`.
-use Rattle.std.specs.Prelude.{◌≡◌, ℕ, nat_lt, nat_le, if◌then◌else◌, not, Bool, false, ◌&&◌, ◌||◌, List, [], ◌∷◌, ◌++◌, length, Option, Some, None, Result, Ok, Err}
+use Rattle.std.specs.Prelude.{◌≡◌, nat_lt, nat_le, if◌then◌else◌, not, Bool, false, ◌&&◌, ◌||◌, List, [], ◌∷◌, ◌++◌, length, Option, Some, None, Result, Ok, Err}
 use Rattle.std.specs.List.{list_any}
 use Rattle.tl_limits.specs.Limits.{max_frames, max_segments}
 use Rattle.tl_model.specs.Media.{Library}

@@ -1,5 +1,5 @@
 -- The segment that has a frame, on a timeline's list of cells, and what lies before and after it.
-use Rattle.std.specs.Prelude.{ℕ, zero, suc, ◌+◌, ◌-◌, if◌then◌else◌, Bool, true, false, List, [], ◌∷◌, take, drop}
+use Rattle.std.specs.Prelude.{ℕ, zero, suc, ◌+◌, ◌-◌, if◌then◌else◌, Bool, true, List, [], ◌∷◌, take, drop}
 use Rattle.tl_model.specs.declared.recipe.Side.{Side}
 use Rattle.tl_model.specs.declared.recipe.Side.TheVariants as side
 use Rattle.tl_model.specs.Cells.{Cell}
