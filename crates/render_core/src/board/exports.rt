@@ -22,19 +22,25 @@ impl<M: Media, L: Lane> Board<M, L> {
         ensures done { Does M.library self.old self.new (record { pass = by; act = act.Ask name.now; view = of_ask }) result }
         ensures uses { need (act.Ask name.now) (state_of M.library self.old) ≤ self.old.spare → OnOk result (self.new.spare + need (act.Ask name.now) (state_of M.library self.old) ≡ self.old.spare) }
     {
-        let need = self.machine.ask_need();
-        self.ask_with(alloc, by, name, need)
+        let count = self.machine.ask_need();
+        self.ask_with(alloc, by, name, count)
     }
 
     /// Asks for an export where so many entries are needed.
-    fn ask_with(&mut self, alloc: Global, by: u32, name: &Name, need: u64) -> Result<AskReply, Full>
-        requires need { need ≡ need (act.Ask name.now) (state_of M.library self.old) }
-        requires some { 1 ≤ need }
-        requires few { need ≤ 3 }
-        ensures done { MatchResult result (λ given. HasRoom M.library self.old need × Makes M.library self.old self.new (Some (record { pass = by; act = act.Ask name.now; told = of_ask given }))) (λ why. Refuses M.library self.old self.new need why) }
-        ensures uses { need ≤ self.old.spare → OnOk result (self.new.spare + need ≡ self.old.spare) }
+    fn ask_with(
+        &mut self,
+        alloc: Global,
+        by: u32,
+        name: &Name,
+        count: u64,
+    ) -> Result<AskReply, Full>
+        requires need { count ≡ need (act.Ask name.now) (state_of M.library self.old) }
+        requires some { 1 ≤ count }
+        requires few { count ≤ 3 }
+        ensures done { MatchResult result (λ given. HasRoom M.library self.old count × Makes M.library self.old self.new (Some (record { pass = by; act = act.Ask name.now; told = of_ask given }))) (λ why. Refuses M.library self.old self.new count why) }
+        ensures uses { count ≤ self.old.spare → OnOk result (self.new.spare + count ≡ self.old.spare) }
     {
-        self.make_room(need)?;
+        self.make_room(count)?;
         let Ok(copy) = name.copy(alloc) else {
             return Err(Full::NoMemory);
         };
@@ -45,7 +51,7 @@ impl<M: Media, L: Lane> Board<M, L> {
             pass: by,
             act: Act::Ask { name: copy },
         });
-        self.owed += need - 1;
+        self.owed += count - 1;
         Ok(reply)
     }
 
