@@ -1,5 +1,5 @@
 -- What a caller knows of an editing core, and what a call adds to that.
-use Rattle.std.specs.Prelude.{◌≡◌, ℕ, ◌+◌, ◌<◌, ◌≤◌, ◌==◌, false, List, [], ◌∷◌, ◌++◌, length, slice_get, Option, Some, None, IsTrue, Result, Ok, Err}
+use Rattle.std.specs.Prelude.{◌≡◌, ℕ, ◌+◌, ◌<◌, ◌≤◌, ◌==◌, false, List, [], ◌∷◌, ◌++◌, length, slice_get, Option, Some, None, IsTrue, Result, Ok, Err, ◌⊎◌}
 use Rattle.std.specs.List.{position}
 use Rattle.tl_limits.specs.Limits.{IsJournalLimit}
 use Rattle.tl_model.specs.Cells.{Cell, cells, recipes}
@@ -25,7 +25,8 @@ use Rattle.render_core.specs.Calls.{CallOf, calls_of, own, own_calls}
 use Rattle.render_core.specs.Claim.{ClaimOf}
 use Rattle.render_core.specs.Export.{ExportJobOf, is_untaken}
 use Rattle.render_core.specs.State.{State, owed, is_queued, Holds, HoldsExport}
-use Rattle.render_core.specs.Step.{Setup, Reply, Claimed, Render, IsJournal, need, reply, state_after, picture_of}
+use Rattle.render_core.specs.Step.{Setup, IsJournal, need, reply, state_after, picture_of}
+use Rattle.render_core.specs.Step.{Reply, Edited, Wanted, Cancelled, PastEnd, Claimed, Filed, Released, Closed, Picture, Fault, Pending, Render, Asked, EmptyTimeline, Taken, Silent}
 
 -- What no call changes: the caller's number, the library, the size of the cache, the most entries, and a part of the desk's own.
 pub record FixedOf (M K : Type 0) : Type 0 where
@@ -45,6 +46,32 @@ pub record ActAs (R F : Type 0) : Type 0 where
   pub act : Act
   pub view : R → Reply F
 
+-- A recipe that is to be rendered gives its render.
+abbrev pub with_render : {F : Type 0} → Library F → Reply F → Reply F
+with_render lib (Edited told) = Edited told
+with_render lib (Wanted count) = Wanted count
+with_render lib (Cancelled count) = Cancelled count
+with_render lib (PastEnd len) = PastEnd len
+with_render lib (Claimed job recipe) = Claimed job recipe
+with_render lib Filed = Filed
+with_render lib Released = Released
+with_render lib (Closed at) = Closed at
+with_render lib (Picture frame) = Picture frame
+with_render lib (Fault fault) = Fault fault
+with_render lib (Pending recipe) = Pending recipe
+with_render lib (Render recipe) = picture_of (lib.render recipe)
+with_render lib (Asked export) = Asked export
+with_render lib EmptyTimeline = EmptyTimeline
+with_render lib (Taken export name line) = Taken export name line
+with_render lib Silent = Silent
+
+-- The caller sees entries of others.
+pub record Learns {M K : Type 0} (old new : DeskOf M K) : Type 0 where
+  pub fixed : new.fixed ≡ old.fixed
+  pub others : List Entry
+  pub apart : own old.fixed.number others ≡ []
+  pub seen : new.seen ≡ old.seen ++ others
+
 module _ {M K F : Type 0} where
   abbrev pub setup_of : (M → Library F) → DeskOf M K → Setup F
   setup_of library d = record { library = library d.fixed.library; cache = d.fixed.cache }
@@ -62,13 +89,6 @@ module _ {M K F : Type 0} where
     pub legal : IsJournal (setup_of library d) d.seen
     pub within : length d.seen + owed (state_of library d) ≤ d.fixed.limit
     pub few : IsJournalLimit d.fixed.limit
-
-  -- The caller sees entries of others.
-  pub record Learns (old new : DeskOf M K) : Type 0 where
-    pub fixed : new.fixed ≡ old.fixed
-    pub others : List Entry
-    pub apart : own old.fixed.number others ≡ []
-    pub seen : new.seen ≡ old.seen ++ others
 
   -- It sees entries of others, and then its own act, which is told the machine's reply.
   pub record Enters (library : M → Library F) (old new : DeskOf M K) (what : Act) (told : Reply F) : Type 0 where
@@ -109,6 +129,9 @@ module _ {M K F : Type 0} where
   Files library old new given (Ok told) = Enters library old new (act.File given.0.job) (of_file told)
   Files library old new given (Err back) = Learns old new × (back.0 ≡ given.0) × (back.1 ≡ given.1)
 
-  -- What a show whose caller renders is told: the render of the frame's recipe where it isn't filed.
-  abbrev pub rendered_reply : (M → Library F) → DeskOf M K → Reply F → Reply F
-  rendered_reply library d told = told
+  -- A show is told what the machine replies, but the render of a recipe that isn't filed. Where that render wants memory its entry stays.
+  abbrev pub Shows : (M → Library F) → (old new : DeskOf M K) (n : ℕ) → Result (ShowReply F) Full → Type 0
+  Shows library old new n (Ok given) = (told : Reply F) × Enters library old new (act.Show n) told × (of_show given ≡ with_render (library old.fixed.library) told)
+  Shows library old new n (Err (full.JournalFull len owing)) = Learns old new × IsFull library new 1 (full.JournalFull len owing)
+  Shows library old new n (Err full.NoMemory) =
+      (Learns old new × IsFull library new 1 full.NoMemory) ⊎ ((recipe : Recipe) × Enters library old new (act.Show n) (Render recipe))
