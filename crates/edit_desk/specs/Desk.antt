@@ -135,3 +135,10 @@ module _ {M K F : Type 0} where
   Shows library old new n (Err (full.JournalFull len owing)) = Learns old new × IsFull library new 1 (full.JournalFull len owing)
   Shows library old new n (Err full.NoMemory) =
       (Learns old new × IsFull library new 1 full.NoMemory) ⊎ ((recipe : Recipe) × Enters library old new (act.Show n) (Render recipe))
+
+  -- The caller hears these calls of its own and no others: what it knows of itself, whatever others enter.
+  pub record Hears (library : M → Library F) (old new : DeskOf M K) (calls : List (CallOf F)) : Type 0 where
+    pub fixed : new.fixed ≡ old.fixed
+    pub more : List Entry
+    pub seen : new.seen ≡ old.seen ++ more
+    pub heard : heard library new ≡ heard library old ++ calls

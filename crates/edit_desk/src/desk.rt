@@ -82,7 +82,8 @@ pub trait Desk {
     ) -> Result<FileReply, (Claim, Self::Made, AllocError)>
         requires held { Holds (state_of Self.Lib.library (desk self.old)) (desk self.old).fixed.number claim.job claim.recipe }
         requires rendered { made rendered ≡ record { recipe = claim.recipe; library = (desk self.old).fixed.library } }
-        ensures { Files Self.Lib.library (desk self.old) (desk self.new) (claim, rendered) result };
+        ensures told { Files Self.Lib.library (desk self.old) (desk self.new) (claim, rendered) result }
+        ensures held { MatchResult result (λ _. Unit {0}) (λ back. Holds (state_of Self.Lib.library (desk self.new)) (desk self.new).fixed.number claim.job claim.recipe) };
 
     /// Gives a claim back. It can't be refused.
     fn release(&mut self, claim: Claim) -> ReleaseReply

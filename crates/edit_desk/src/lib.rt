@@ -6,3 +6,6 @@ mod desk;
 
 pub use alone::Alone;
 pub use desk::Desk;
+
+#[cfg(test)]
+mod tests;

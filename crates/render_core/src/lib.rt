@@ -19,3 +19,6 @@ pub use reply::{
     AskReply, CancelReply, ClaimReply, FileReply, Full, PlayReply, ReleaseReply, ShowReply,
     TakeReply, WantReply,
 };
+
+#[cfg(test)]
+mod tests;

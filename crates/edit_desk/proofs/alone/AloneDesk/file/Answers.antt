@@ -6,7 +6,7 @@ use Rattle.edit_desk.specs.Alone.{desk_of}
 use Rattle.edit_desk.proofs.Calls.{files}
 use Rattle.edit_desk.proofs.alone.AloneDesk.file.Goals as goal
 
-pub returns : goal.returns
-returns g c =
+pub returns-clause-told : goal.returns-clause-told
+returns-clause-told g c =
     subst (λ (d : DeskOf _ _). Files g.M.Media.library d (desk_of c.file.new.self) (c.args.claim, c.args.rendered) c.file.result) c.self.view_is
     (files g.M.Media.library c.self.inside.board c.file.new.self c.args.claim c.args.rendered c.file.result c.file.ensures.done)
