@@ -4,37 +4,38 @@ use Rattle.std.specs.Prelude.{slice_get, ◌==◌}
 use Rattle.std.specs.List.{position}
 use Rattle.std.specs.Option.{option_map}
 use Rattle.std.proofs.lemmas.List.Quantifiers.{position-Some}
+use Rattle.std.proofs.lemmas.Bool.Decides.{nat_tests}
 use Rattle.std.proofs.lemmas.Option.{get_or_from_slice_get, same_Some}
-use Rattle.tl_model.specs.Media.{Library}
+use Rattle.tl_model.specs.Recipe.{same_recipe}
 use Rattle.tl_model.specs.declared.recipe.Recipe.{Recipe}
-use Rattle.tl_model.specs.declared.edit.EditRefusal.{EditRefusal}
+use Rattle.tl_model.specs.declared.edit.EditReply.{EditReply}
 use Rattle.tl_model.specs.declared.journal.Act.{Act}
 use Rattle.tl_model.specs.declared.journal.Act.TheVariants as act
 use Rattle.tl_model.specs.declared.journal.Entry.{Entry}
-use Rattle.time_list.specs.Cells.{Cell, recipes, is_among}
-use Rattle.time_list.specs.Apply.{apply}
+use Rattle.tl_model.specs.Cells.{recipes, is_among}
+use Rattle.edit_undo.specs.History.{History, edit_outcome, undo_outcome, redo_outcome}
 use Rattle.render_core.specs.declared.job.Job.{Job}
-use Rattle.render_core.specs.State.{State, start, is_open, is_queued, held, let_go, ended, close_if, update, has_open, want_one, want_all, range, put_first, Holds}
-use Rattle.render_core.specs.Step.{IsLegal, step, after, state_after, AreLegal, IsJournal, is_past, edited, with_jobs, wanted, claimed, filed, played}
+use Rattle.render_core.specs.Export.{is_untaken}
+use Rattle.render_core.specs.State.{State, start, is_open, is_queued, with_holder, without_holder, with_result, close_if, update, has_open, new_job, want_one, want_all, range, put_first, Holds}
+use Rattle.render_core.specs.Step.{Setup, IsLegal, step, after, state_after, AreLegal, IsJournal, is_past, is_empty, with_history, jobs_after_want, after_claim, after_file, after_play, new_export, after_take}
 use Rattle.render_core.specs.Claim.{ClaimOf, EndsJob, EndsNone}
 use Rattle.render_core.specs.Parts.{MachineOf, is_by, is_held_by}
 use Rattle.render_core.proofs.Ranges.{both_true, same_recipe-true}
-use Rattle.render_core.proofs.Jobs.{both, eqb-self, same_recipe-same}
-use Rattle.std.proofs.lemmas.Bool.Decides.{nat_tests}
-use Rattle.tl_model.specs.Recipe.{same_recipe}
+use Rattle.render_core.proofs.JobLists.{both, eqb-self, same_recipe-same}
+use Rattle.render_core.proofs.Journals.{legal_rest, after_rest}
 
 abbrev job_of : Recipe → ℕ → Option ℕ → Job
 job_of recipe pass closed = record { recipe = recipe; holder = Some pass; closed = closed }
 
 -- the job at a place after a change elsewhere, after more jobs, and after some were closed
-update_other : (change : Job → Job) (jobs : List Job) (i j : ℕ) → i ≢ j → slice_get (update j change jobs) i ≡ slice_get jobs i
+pub update_other : {A : Type 0} (change : A → A) (jobs : List A) (i j : ℕ) → i ≢ j → slice_get (update j change jobs) i ≡ slice_get jobs i
 update_other change [] i j ne = refl
 update_other change (x ∷ xs) zero zero ne = absurd (ne refl)
 update_other change (x ∷ xs) zero (suc j) ne = refl
 update_other change (x ∷ xs) (suc i) zero ne = refl
 update_other change (x ∷ xs) (suc i) (suc j) ne = update_other change xs i j (λ e. ne (ap suc e))
 
-at_push : (jobs : List Job) (y x : Job) (i : ℕ) → slice_get jobs i ≡ Some x → slice_get (jobs ++ y ∷ []) i ≡ Some x
+pub at_push : {A : Type 0} (jobs : List A) (y x : A) (i : ℕ) → slice_get jobs i ≡ Some x → slice_get (jobs ++ y ∷ []) i ≡ Some x
 at_push [] y x i e = absurd cc
 at_push (j ∷ jobs) y x zero e = e
 at_push (j ∷ jobs) y x (suc i) e = at_push jobs y x i e
@@ -76,36 +77,40 @@ either : (b : Bool) (s next : State) (pass n : ℕ) (recipe : Recipe) → Holds 
 either true s next pass n recipe h k = h
 either false s next pass n recipe h k = k
 
-holds_edited : (at : ℕ) (o : Result (List Cell) EditRefusal) (s : State) (pass n : ℕ) (recipe : Recipe) → Holds s pass n recipe → Holds (edited at o s) pass n recipe
-holds_edited at (Err why) s pass n recipe h = h
-holds_edited at (Ok line) s pass n recipe h = holds_closed s (edited at (Ok line) s) (λ r. not (is_among r (recipes line))) at pass n recipe refl h
+holds_history : (at : ℕ) (o : Result History EditReply) (s : State) (pass n : ℕ) (recipe : Recipe) → Holds s pass n recipe → Holds (with_history at o s) pass n recipe
+holds_history at (Err why) s pass n recipe h = h
+holds_history at (Ok next) s pass n recipe h = holds_closed s (with_history at (Ok next) s) (λ r. not (is_among r (recipes next.line))) at pass n recipe refl h
 
 not_queued : (recipe : Recipe) (pass : ℕ) (closed : Option ℕ) → is_queued (job_of recipe pass closed) ≡ true → ⊥
 not_queued recipe pass None e = cc
 not_queued recipe pass (Some at) e = cc
 
-holds_claimed : (by : ℕ) (o : Option ℕ) (s : State) (pass n : ℕ) (recipe : Recipe) → position is_queued s.jobs ≡ o → Holds s pass n recipe → Holds (claimed by o s) pass n recipe
-holds_claimed by None s pass n recipe e h = h
-holds_claimed by (Some i) s pass n recipe e h =
+holds_claim : (by : ℕ) (o : Option ℕ) (s : State) (pass n : ℕ) (recipe : Recipe) → position is_queued s.jobs ≡ o → Holds s pass n recipe → Holds (after_claim by o s) pass n recipe
+holds_claim by None s pass n recipe e h = h
+holds_claim by (Some i) s pass n recipe e h =
     let x = job_of recipe pass h.closed in
     let found = position-Some is_queued s.jobs i x e in
     let apart : (n - 1) ≢ i = λ same. not_queued recipe pass h.closed (sym (ap is_queued (get_or_from_slice_get s.jobs i x x (ap (slice_get s.jobs) (sym same) ∙ h.is_job))) ∙ found.1) in
-    holds_same s (claimed by (Some i) s) pass n recipe (update_other (held by) s.jobs (n - 1) i apart) h
+    holds_same s (after_claim by (Some i) s) pass n recipe (update_other (with_holder by) s.jobs (n - 1) i apart) h
 
-holds_filed : (cache at i : ℕ) (o : Option Job) (s : State) (pass n : ℕ) (recipe : Recipe) → (n - 1) ≢ i → Holds s pass n recipe → Holds (filed cache at i o s) pass n recipe
-holds_filed cache at i None s pass n recipe ne h = h
-holds_filed cache at i (Some job) s pass n recipe ne h =
-    let opened : State = record { line = s.line; jobs = update i (ended at) s.jobs; filed = take cache (job.recipe ∷ s.filed); is_stopped = s.is_stopped } in
-    let shut : State = with_jobs (update i let_go s.jobs) s in
-    either (is_open job) opened shut pass n recipe (holds_same s opened pass n recipe (update_other (ended at) s.jobs (n - 1) i ne) h) (holds_same s shut pass n recipe (update_other let_go s.jobs (n - 1) i ne) h)
+holds_file : (cache at i : ℕ) (o : Option Job) (s : State) (pass n : ℕ) (recipe : Recipe) → (n - 1) ≢ i → Holds s pass n recipe → Holds (after_file cache at i o s) pass n recipe
+holds_file cache at i None s pass n recipe ne h = h
+holds_file cache at i (Some job) s pass n recipe ne h =
+    let opened : State = record s { jobs = update i (with_result at) s.jobs; filed = take cache (job.recipe ∷ s.filed) } in
+    let shut : State = record s { jobs = update i without_holder s.jobs } in
+    either (is_open job) opened shut pass n recipe (holds_same s opened pass n recipe (update_other (with_result at) s.jobs (n - 1) i ne) h) (holds_same s shut pass n recipe (update_other without_holder s.jobs (n - 1) i ne) h)
 
-holds_played : (o : Option Recipe) (s : State) (pass n : ℕ) (recipe : Recipe) → Holds s pass n recipe → Holds (played o s) pass n recipe
-holds_played None s pass n recipe h = h
-holds_played (Some r) s pass n recipe h =
-    let moved : State = record { line = s.line; jobs = s.jobs; filed = put_first r s.filed; is_stopped = s.is_stopped } in
+holds_play : (o : Option Recipe) (s : State) (pass n : ℕ) (recipe : Recipe) → Holds s pass n recipe → Holds (after_play o s) pass n recipe
+holds_play None s pass n recipe h = h
+holds_play (Some r) s pass n recipe h =
+    let moved : State = record s { filed = put_first r s.filed } in
     either (is_among r s.filed) moved s pass n recipe (holds_same s moved pass n recipe refl h) h
 
--- a job is held by one pass
+holds_take : (by : ℕ) (o : Option ℕ) (s : State) (pass n : ℕ) (recipe : Recipe) → Holds s pass n recipe → Holds (after_take by o s) pass n recipe
+holds_take by None s pass n recipe h = h
+holds_take by (Some i) s pass n recipe h = holds_same s (after_take by (Some i) s) pass n recipe refl h
+
+-- one pass has a job
 holder_in : Option Job → Option ℕ
 holder_in None = None
 holder_in (Some job) = job.holder
@@ -115,57 +120,52 @@ unfolding holder_in
 same_holder s pass by n m recipe other h k e =
     same_Some by pass (sym (ap holder_in k.is_job) ∙ ap (λ (i : ℕ). holder_in (slice_get s.jobs i)) (sym e) ∙ ap holder_in h.is_job)
 
-pub holds_step : {F : Type 0} (lib : Library F) (cache at by : ℕ) (what : Act) (s : State) (pass n : ℕ) (recipe : Recipe) → Holds s pass n recipe → IsLegal by what s → (by ≡ pass → EndsJob n what → ⊥) → Holds (step lib cache at by what s) pass n recipe
-holds_step lib cache at by (act.Edit edit) s pass n recipe h legal ends = holds_edited at (apply lib edit s.line) s pass n recipe h
-holds_step lib cache at by (act.Want first len) s pass n recipe h legal ends =
-    let next = with_jobs (wanted first len s) s in
-    either (is_past first len s) s next pass n recipe h (record { counted = h.counted; closed = h.closed; is_job = at_want s.filed (range first len s.line) s.jobs (job_of recipe pass h.closed) (n - 1) h.is_job })
-holds_step lib cache at by (act.Cancel first len) s pass n recipe h legal ends =
-    let test : Recipe → Bool = λ r. is_among r (range first len s.line) in
-    let next = with_jobs (map (close_if test at) s.jobs) s in
+pub holds_step : {F : Type 0} (setup : Setup F) (at by : ℕ) (what : Act) (s : State) (pass n : ℕ) (recipe : Recipe) → Holds s pass n recipe → IsLegal by what s → (by ≡ pass → EndsJob n what → ⊥) → Holds (step setup at by what s) pass n recipe
+holds_step setup at by (act.Edit edit) s pass n recipe h legal ends = holds_history at (edit_outcome setup.library edit s.history) s pass n recipe h
+holds_step setup at by act.Undo s pass n recipe h legal ends = holds_history at (undo_outcome s.history) s pass n recipe h
+holds_step setup at by act.Redo s pass n recipe h legal ends = holds_history at (redo_outcome s.history) s pass n recipe h
+holds_step setup at by (act.Want first len) s pass n recipe h legal ends =
+    let next = record s { jobs = jobs_after_want first len s } in
+    either (is_past first len s) s next pass n recipe h (record { counted = h.counted; closed = h.closed; is_job = at_want s.filed (range first len s.history.line) s.jobs (job_of recipe pass h.closed) (n - 1) h.is_job })
+holds_step setup at by (act.Cancel first len) s pass n recipe h legal ends =
+    let test : Recipe → Bool = λ r. is_among r (range first len s.history.line) in
+    let next = record s { jobs = map (close_if test at) s.jobs } in
     either (is_past first len s) s next pass n recipe h (holds_closed s next test at pass n recipe refl h)
-holds_step lib cache at by act.Claim s pass n recipe h legal ends = holds_claimed by (position is_queued s.jobs) s pass n recipe refl h
-holds_step lib cache at by (act.File job) s pass n recipe h legal ends =
+holds_step setup at by act.Claim s pass n recipe h legal ends = holds_claim by (position is_queued s.jobs) s pass n recipe refl h
+holds_step setup at by (act.File job) s pass n recipe h legal ends =
     let apart : (n - 1) ≢ (job - 1) = λ e. ends (same_holder s pass by n job recipe legal.0 h legal.1 e) (let same : job ≡ n = omega (arith, e, h.counted, legal.1.counted) in same) in
-    holds_filed cache at (job - 1) (slice_get s.jobs (job - 1)) s pass n recipe apart h
-holds_step lib cache at by (act.Release job) s pass n recipe h legal ends =
+    holds_file setup.cache at (job - 1) (slice_get s.jobs (job - 1)) s pass n recipe apart h
+holds_step setup at by (act.Release job) s pass n recipe h legal ends =
     let apart : (n - 1) ≢ (job - 1) = λ e. ends (same_holder s pass by n job recipe legal.0 h legal.1 e) (let same : job ≡ n = omega (arith, e, h.counted, legal.1.counted) in same) in
-    holds_same s (with_jobs (update (job - 1) let_go s.jobs) s) pass n recipe (update_other let_go s.jobs (n - 1) (job - 1) apart) h
-holds_step lib cache at by (act.Play m) s pass n recipe h legal ends = holds_played (slice_get (recipes s.line) m) s pass n recipe h
-holds_step lib cache at by act.Stop s pass n recipe h legal ends = holds_same s (step lib cache at by act.Stop s) pass n recipe refl h
+    holds_same s (record s { jobs = update (job - 1) without_holder s.jobs }) pass n recipe (update_other without_holder s.jobs (n - 1) (job - 1) apart) h
+holds_step setup at by (act.Play m) s pass n recipe h legal ends = holds_play (slice_get (recipes s.history.line) m) s pass n recipe h
+holds_step setup at by (act.Show m) s pass n recipe h legal ends = holds_play (slice_get (recipes s.history.line) m) s pass n recipe h
+holds_step setup at by (act.Ask name) s pass n recipe h legal ends =
+    let next = record s { exports = s.exports ++ new_export name s ∷ [] } in
+    either (is_empty s) s next pass n recipe h (holds_same s next pass n recipe refl h)
+holds_step setup at by act.Take s pass n recipe h legal ends = holds_take by (position is_untaken s.exports) s pass n recipe h
+holds_step setup at by (act.End export ending) s pass n recipe h legal ends = holds_same s (step setup at by (act.End export ending) s) pass n recipe refl h
+holds_step setup at by (act.Mark turns) s pass n recipe h legal ends = h
+holds_step setup at by act.Skip s pass n recipe h legal ends = h
+holds_step setup at by act.Stop s pass n recipe h legal ends = holds_same s (step setup at by act.Stop s) pass n recipe refl h
 
-holds_after : {F : Type 0} (lib : Library F) (cache count : ℕ) (more : List Entry) (s : State) (pass n : ℕ) (recipe : Recipe) → Holds s pass n recipe → AreLegal lib cache count more s → EndsNone pass n more → Holds (after lib cache count more s) pass n recipe
-holds_after lib cache count [] s pass n recipe h legal ends = h
-holds_after lib cache count (e ∷ es) s pass n recipe h legal ends =
-    holds_after lib cache (count + 1) es (step lib cache (count + 1) e.pass e.act s) pass n recipe (holds_step lib cache (count + 1) e.pass e.act s pass n recipe h legal.0 ends.0) legal.1 ends.1
+holds_after : {F : Type 0} (setup : Setup F) (count : ℕ) (more : List Entry) (s : State) (pass n : ℕ) (recipe : Recipe) → Holds s pass n recipe → AreLegal setup count more s → EndsNone (EndsJob n) pass more → Holds (after setup count more s) pass n recipe
+holds_after setup count [] s pass n recipe h legal ends = h
+holds_after setup count (e ∷ es) s pass n recipe h legal ends =
+    holds_after setup (count + 1) es (step setup (count + 1) e.pass e.act s) pass n recipe (holds_step setup (count + 1) e.pass e.act s pass n recipe h legal.0 ends.0) legal.1 ends.1
 
--- a journal in two parts
-legal_rest : {F : Type 0} (lib : Library F) (cache count : ℕ) (es more : List Entry) (s : State) → AreLegal lib cache count (es ++ more) s → AreLegal lib cache (count + length es) more (after lib cache count es s)
-legal_rest lib cache count [] more s legal = let n : count ≡ count + 0 = omega arith in subst (λ (k : ℕ). AreLegal lib cache k more s) n legal
-legal_rest lib cache count (e ∷ es) more s legal =
-    let n : count + 1 + length es ≡ count + suc (length es) = omega arith in
-    let next = step lib cache (count + 1) e.pass e.act s in
-    subst (λ (k : ℕ). AreLegal lib cache k more (after lib cache (count + 1) es next)) n (legal_rest lib cache (count + 1) es more next legal.1)
+pub claim_lasts : {F : Type 0} (setup : Setup F) (journal more : List Entry) (pass n : ℕ) (recipe : Recipe) → IsJournal setup (journal ++ more) → Holds (state_after setup journal) pass n recipe → EndsNone (EndsJob n) pass more → Holds (state_after setup (journal ++ more)) pass n recipe
+claim_lasts setup journal more pass n recipe legal h ends =
+    subst (λ (s : State). Holds s pass n recipe) (sym (after_rest setup 0 journal more start))
+    (holds_after setup (0 + length journal) more (state_after setup journal) pass n recipe h (legal_rest setup 0 journal more start legal) ends)
 
-after_rest : {F : Type 0} (lib : Library F) (cache count : ℕ) (es more : List Entry) (s : State) → after lib cache count (es ++ more) s ≡ after lib cache (count + length es) more (after lib cache count es s)
-after_rest lib cache count [] more s = let n : count ≡ count + 0 = omega arith in ap (λ (k : ℕ). after lib cache k more s) n
-after_rest lib cache count (e ∷ es) more s =
-    let n : count + 1 + length es ≡ count + suc (length es) = omega arith in
-    let next = step lib cache (count + 1) e.pass e.act s in
-    after_rest lib cache (count + 1) es more next ∙ ap (λ (k : ℕ). after lib cache k more (after lib cache (count + 1) es next)) n
-
-pub claim_lasts : {F : Type 0} (lib : Library F) (cache : ℕ) (journal more : List Entry) (pass n : ℕ) (recipe : Recipe) → IsJournal lib cache (journal ++ more) → Holds (state_after lib cache journal) pass n recipe → EndsNone pass n more → Holds (state_after lib cache (journal ++ more)) pass n recipe
-claim_lasts lib cache journal more pass n recipe legal h ends =
-    subst (λ (s : State). Holds s pass n recipe) (sym (after_rest lib cache 0 journal more start))
-    (holds_after lib cache (0 + length journal) more (state_after lib cache journal) pass n recipe h (legal_rest lib cache 0 journal more start legal) ends)
-
-at_update : (change : Job → Job) (jobs : List Job) (i : ℕ) (x : Job) → slice_get jobs i ≡ Some x → slice_get (update i change jobs) i ≡ Some (change x)
+pub at_update : {A : Type 0} (change : A → A) (jobs : List A) (i : ℕ) (x : A) → slice_get jobs i ≡ Some x → slice_get (update i change jobs) i ≡ Some (change x)
 at_update change [] i x e = absurd cc
-at_update change (j ∷ jobs) zero x e = let same : j ≡ x = cc in ap (λ (y : Job). Some (change y)) same
+at_update change (j ∷ jobs) zero x e = let same : j ≡ x = cc in ap (λ y. Some (change y)) same
 at_update change (j ∷ jobs) (suc i) x e = at_update change jobs i x e
 
--- a claim that was just made is held
-pub claim_holds : (pass place : ℕ) (recipe : Recipe) (s next : State) → next ≡ claimed pass (Some place) s → option_map (λ (job : Job). job.recipe) (slice_get s.jobs place) ≡ Some recipe → Holds next pass (place + 1) recipe
+-- a claim that was just made is with_holder
+pub claim_holds : (pass place : ℕ) (recipe : Recipe) (s next : State) → next ≡ after_claim pass (Some place) s → option_map (λ (job : Job). job.recipe) (slice_get s.jobs place) ≡ Some recipe → Holds next pass (place + 1) recipe
 claim_holds pass place recipe s next turn e = by_job (slice_get s.jobs place) refl e
   where
     by_job : (o : Option Job) → slice_get s.jobs place ≡ o → option_map (λ (job : Job). job.recipe) o ≡ Some recipe → Holds next pass (place + 1) recipe
@@ -176,7 +176,7 @@ claim_holds pass place recipe s next turn e = by_job (slice_get s.jobs place) re
         record {
           counted = omega arith;
           closed = x.closed;
-          is_job = ap (λ (n : State). slice_get n.jobs ((place + 1) - 1)) turn ∙ ap (slice_get (update place (held pass) s.jobs)) i ∙ at_update (held pass) s.jobs place x at ∙ ap (λ (r : Recipe). Some (job_of r pass x.closed)) is;
+          is_job = ap (λ (n : State). slice_get n.jobs ((place + 1) - 1)) turn ∙ ap (slice_get (update place (with_holder pass) s.jobs)) i ∙ at_update (with_holder pass) s.jobs place x at ∙ ap (λ (r : Recipe). Some (job_of r pass x.closed)) is;
         }
 
 -- the test of a claim

@@ -1,8 +1,12 @@
 pub mod Ranges
-pub mod Jobs
+pub mod JobLists
 pub mod Turns
 pub mod Grows
 pub mod Claims
 pub mod Calls
 pub mod Renders
 pub mod Orderly
+pub mod Journals
+pub mod Owed
+pub mod Ends
+pub mod Changes

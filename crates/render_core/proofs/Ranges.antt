@@ -10,7 +10,7 @@ use Rattle.tl_model.specs.declared.recipe.Side.{Side}
 use Rattle.tl_model.specs.declared.recipe.Side.TheVariants as side
 use Rattle.tl_model.specs.declared.recipe.Recipe.{Recipe}
 use Rattle.tl_model.specs.declared.recipe.Recipe.TheVariants as recipe
-use Rattle.time_list.specs.Cells.{is_among}
+use Rattle.tl_model.specs.Cells.{is_among}
 use Rattle.render_core.specs.State.{without}
 use Rattle.render_core.specs.Parts.{Places, recipes_of}
 

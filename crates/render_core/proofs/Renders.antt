@@ -1,32 +1,16 @@
 -- Every job's recipe can be rendered, since it was that of a cell of a sound timeline.
-use Rattle.std.proofs.Common.{◌≡◌, ℕ, zero, suc, ◌+◌, ◌*◌, ◌/◌, ◌<◌, ◌≤◌, cond, Bool, true, false, ◌&&◌, ◌||◌, List, [], ◌∷◌, ◌++◌, take, drop, map, Option, Some, None, subst, arith}
+use Rattle.std.proofs.Common.{◌≡◌, ℕ, zero, suc, cond, Bool, true, false, ◌&&◌, ◌||◌, List, [], ◌∷◌, ◌++◌, take, drop, map, Option, Some, None, sym, subst}
 use Rattle.std.specs.Prelude.{slice_get}
-use Rattle.std.proofs.Math.Nat.{div-lt_iff_lt-mul}
-use Rattle.tl_model.specs.Media.{Library, IsShown, CanRender}
-use Rattle.tl_model.specs.declared.recipe.Side.{Side}
-use Rattle.tl_model.specs.declared.recipe.Side.TheVariants as side
+use Rattle.tl_model.specs.Media.{Library, CanRender}
 use Rattle.tl_model.specs.declared.recipe.Recipe.{Recipe}
-use Rattle.time_list.specs.Cells.{Cell, CellMix, mixed_or_alone, recipe_of, recipes, is_among}
-use Rattle.time_list.specs.Apply.{AreSound, IsSoundMix}
+use Rattle.tl_model.specs.Cells.{Cell, recipes, is_among}
+use Rattle.tl_model.specs.Sound.{IsSound, AreSound}
+use Rattle.tl_model.proofs.Renders.{cell-renders}
 use Rattle.render_core.specs.declared.job.Job.{Job}
-use Rattle.render_core.specs.State.{is_open, held, let_go, ended, close_if, update, range, has_open, want_one, want_all}
-use Rattle.render_core.specs.Parts.{AreShown}
-
-weight-small : (step total : ℕ) → step ≤ total → 256 * step / (total + 1) < 256
-weight-small step total h =
-    let some : zero < total + 1 = omega arith in
-    let less : 256 * step < 256 * (total + 1) = omega arith in
-    (div-lt_iff_lt-mul {k = total + 1} {x = 256 * step} {y = 256} some).1 less
-
-cell-renders : {F : Type 0} (lib : Library F) (mix : Option CellMix) (x : Side) → IsShown lib x → IsSoundMix lib mix → CanRender lib (mixed_or_alone mix x)
-cell-renders lib None side.Black s m = tt
-cell-renders lib None (side.Clip clip frame) s m = s
-cell-renders lib (Some mix) x s m = (m.0, s, weight-small mix.step mix.total m.1)
-
-pub line-renders : {F : Type 0} (lib : Library F) (line : List Cell) (n : ℕ) (r : Recipe) → AreSound lib line → slice_get (recipes line) n ≡ Some r → CanRender lib r
-line-renders lib [] n r s e = absurd cc
-line-renders lib (c ∷ cs) zero r s e = let same : recipe_of c ≡ r = cc in subst (CanRender lib) same (cell-renders lib c.mix c.side s.0.0 s.0.1)
-line-renders lib (c ∷ cs) (suc n) r s e = line-renders lib cs n r s.1 e
+use Rattle.render_core.specs.Export.{ExportOf}
+use Rattle.render_core.specs.State.{is_open, with_holder, without_holder, with_result, close_if, update, range, has_open, new_job, want_one, want_all}
+use Rattle.render_core.specs.Parts.{AreShown, AreSoundExports}
+use Rattle.render_core.specs.Waiting.{Took}
 
 -- the recipes of a range, one after the other
 CanAll : {F : Type 0} → Library F → List Recipe → Type 0
@@ -55,9 +39,9 @@ shown-push : {F : Type 0} (lib : Library F) (jobs : List Job) (job : Job) → Ca
 shown-push lib [] job one h = (one, tt)
 shown-push lib (j ∷ jobs) job one h = (h.0, shown-push lib jobs job one h.1)
 
-shown-want_by : {F : Type 0} (lib : Library F) (jobs : List Job) (r : Recipe) (b : Bool) → CanRender lib r → AreShown lib jobs → AreShown lib (cond b jobs (jobs ++ record { recipe = r; holder = None; closed = None } ∷ []))
+shown-want_by : {F : Type 0} (lib : Library F) (jobs : List Job) (r : Recipe) (b : Bool) → CanRender lib r → AreShown lib jobs → AreShown lib (cond b jobs (jobs ++ new_job r ∷ []))
 shown-want_by lib jobs r true one h = h
-shown-want_by lib jobs r false one h = shown-push lib jobs (record { recipe = r; holder = None; closed = None }) one h
+shown-want_by lib jobs r false one h = shown-push lib jobs (new_job r) one h
 
 shown-all : {F : Type 0} (lib : Library F) (filed rs : List Recipe) (jobs : List Job) → CanAll lib rs → AreShown lib jobs → AreShown lib (want_all filed rs jobs)
 unfolding CanAll
@@ -75,22 +59,41 @@ pub shown-close : {F : Type 0} (lib : Library F) (test : Recipe → Bool) (at : 
 shown-close lib test at [] h = tt
 shown-close lib test at (job ∷ jobs) h = (close-renders lib at job (is_open job && test job.recipe) h.0, shown-close lib test at jobs h.1)
 
-pub shown-held : {F : Type 0} (lib : Library F) (pass i : ℕ) (jobs : List Job) → AreShown lib jobs → AreShown lib (update i (held pass) jobs)
-shown-held lib pass i [] h = tt
-shown-held lib pass zero (job ∷ jobs) h = h
-shown-held lib pass (suc i) (job ∷ jobs) h = (h.0, shown-held lib pass i jobs h.1)
+pub shown-with_holder : {F : Type 0} (lib : Library F) (pass i : ℕ) (jobs : List Job) → AreShown lib jobs → AreShown lib (update i (with_holder pass) jobs)
+shown-with_holder lib pass i [] h = tt
+shown-with_holder lib pass zero (job ∷ jobs) h = h
+shown-with_holder lib pass (suc i) (job ∷ jobs) h = (h.0, shown-with_holder lib pass i jobs h.1)
 
-pub shown-let_go : {F : Type 0} (lib : Library F) (i : ℕ) (jobs : List Job) → AreShown lib jobs → AreShown lib (update i let_go jobs)
-shown-let_go lib i [] h = tt
-shown-let_go lib zero (job ∷ jobs) h = h
-shown-let_go lib (suc i) (job ∷ jobs) h = (h.0, shown-let_go lib i jobs h.1)
+pub shown-without_holder : {F : Type 0} (lib : Library F) (i : ℕ) (jobs : List Job) → AreShown lib jobs → AreShown lib (update i without_holder jobs)
+shown-without_holder lib i [] h = tt
+shown-without_holder lib zero (job ∷ jobs) h = h
+shown-without_holder lib (suc i) (job ∷ jobs) h = (h.0, shown-without_holder lib i jobs h.1)
 
-pub shown-ended : {F : Type 0} (lib : Library F) (at i : ℕ) (jobs : List Job) → AreShown lib jobs → AreShown lib (update i (ended at) jobs)
-shown-ended lib at i [] h = tt
-shown-ended lib at zero (job ∷ jobs) h = h
-shown-ended lib at (suc i) (job ∷ jobs) h = (h.0, shown-ended lib at i jobs h.1)
+pub shown-with_result : {F : Type 0} (lib : Library F) (at i : ℕ) (jobs : List Job) → AreShown lib jobs → AreShown lib (update i (with_result at) jobs)
+shown-with_result lib at i [] h = tt
+shown-with_result lib at zero (job ∷ jobs) h = h
+shown-with_result lib at (suc i) (job ∷ jobs) h = (h.0, shown-with_result lib at i jobs h.1)
 
 pub shown-at : {F : Type 0} (lib : Library F) (jobs : List Job) (i : ℕ) (job : Job) → AreShown lib jobs → slice_get jobs i ≡ Some job → CanRender lib job.recipe
 shown-at lib [] i job h e = absurd cc
 shown-at lib (j ∷ jobs) zero job h e = let same : j ≡ job = cc in subst (λ (x : Job). CanRender lib x.recipe) same h.0
 shown-at lib (j ∷ jobs) (suc i) job h e = shown-at lib jobs i job h.1 e
+
+-- the exports after each change
+pub sound_exports-push : {F : Type 0} (lib : Library F) (xs : List ExportOf) (x : ExportOf) → IsSound lib x.line → AreSoundExports lib xs → AreSoundExports lib (xs ++ x ∷ [])
+sound_exports-push lib [] x one h = (one, tt)
+sound_exports-push lib (y ∷ xs) x one h = (h.0, sound_exports-push lib xs x one h.1)
+
+pub sound_exports-update : {F : Type 0} (lib : Library F) (change : ExportOf → ExportOf) → ((x : ExportOf) → IsSound lib x.line → IsSound lib (change x).line) → (i : ℕ) (xs : List ExportOf) → AreSoundExports lib xs → AreSoundExports lib (update i change xs)
+sound_exports-update lib change keeps i [] h = tt
+sound_exports-update lib change keeps zero (x ∷ xs) h = (keeps x h.0, h.1)
+sound_exports-update lib change keeps (suc i) (x ∷ xs) h = (h.0, sound_exports-update lib change keeps i xs h.1)
+
+pub sound_exports-at : {F : Type 0} (lib : Library F) (xs : List ExportOf) (i : ℕ) (x : ExportOf) → AreSoundExports lib xs → slice_get xs i ≡ Some x → IsSound lib x.line
+sound_exports-at lib [] i x h e = absurd cc
+sound_exports-at lib (y ∷ xs) zero x h e = let same : y ≡ x = cc in subst (λ (z : ExportOf). IsSound lib z.line) same h.0
+sound_exports-at lib (y ∷ xs) (suc i) x h e = sound_exports-at lib xs i x h.1 e
+
+pub took_sound : {F : Type 0} (lib : Library F) (xs : List ExportOf) (i : ℕ) (o : Option ExportOf) (name : List ℕ) (line : List Cell) → slice_get xs i ≡ o → AreSoundExports lib xs → Took name line o → IsSound lib line
+took_sound lib xs i None name line e h t = absurd t
+took_sound lib xs i (Some x) name line e h t = subst (IsSound lib) (sym t.1) (sound_exports-at lib xs i x h e)

@@ -1,33 +1,37 @@
--- Lists of calls: what led from one board to another, and what the journal then has.
-use Rattle.std.specs.Prelude.{◌≡◌, ℕ, ◌+◌, List, [], ◌∷◌, ◌++◌, map, length, Option, Some, None}
-use Rattle.tl_model.specs.Media.{Library}
+-- Calls that have entries: what each did, and what it was told.
+use Rattle.std.specs.Prelude.{ℕ, ◌+◌, ◌==◌, List, [], ◌∷◌, map, filter}
+use Rattle.tl_model.specs.declared.journal.Act.{Act}
 use Rattle.tl_model.specs.declared.journal.Entry.{Entry}
-use Rattle.render_core.specs.State.{State}
-use Rattle.render_core.specs.Step.{Reply, step, reply, state_after, AreLegal}
-use Rattle.render_core.specs.Board.{BoardOf, CallOf, Makes}
+use Rattle.render_core.specs.State.{State, start}
+use Rattle.render_core.specs.Step.{Setup, Reply, step, reply}
+
+pub record CallOf (F : Type 0) : Type 0 where
+  pub pass : ℕ
+  pub act : Act
+  pub told : Reply F
 
 abbrev pub entry_of : {F : Type 0} → CallOf F → Entry
 entry_of call = record { pass = call.pass; act = call.act }
 
--- The calls that have entries.
-abbrev pub entered : {F : Type 0} → List (Option (CallOf F)) → List (CallOf F)
-entered [] = []
-entered (None ∷ calls) = entered calls
-entered (Some call ∷ calls) = call ∷ entered calls
+-- Each entry with the machine's reply to it. The first is entry `count + 1`.
+abbrev pub calls_from : {F : Type 0} → Setup F → (count : ℕ) → List Entry → State → List (CallOf F)
+calls_from setup count [] s = []
+calls_from setup count (e ∷ es) s =
+    record { pass = e.pass; act = e.act; told = reply setup.library e.act s } ∷ calls_from setup (count + 1) es (step setup (count + 1) e.pass e.act s)
 
--- The machine's replies to entries, of which the first is entry `count + 1`.
-abbrev pub replies : {F : Type 0} → Library F → (cache count : ℕ) → List Entry → State → List (Reply F)
-replies lib cache count [] s = []
-replies lib cache count (e ∷ es) s = reply lib e.act s ∷ replies lib cache (count + 1) es (step lib cache (count + 1) e.pass e.act s)
+abbrev pub calls_of : {F : Type 0} → Setup F → List Entry → List (CallOf F)
+calls_of setup journal = calls_from setup 0 journal start
 
-module _ {M F : Type 0} where
-  -- The calls, one after the other, lead from one board to another.
-  abbrev pub Runs : (M → Library F) → (old new : BoardOf M) → List (Option (CallOf F)) → Type 0
-  Runs library old new [] = new ≡ old
-  Runs library old new (call ∷ calls) = (mid : BoardOf M) × Makes library old mid call × Runs library mid new calls
+abbrev pub replies : {F : Type 0} → Setup F → List Entry → List (Reply F)
+replies setup journal = map (λ call. call.told) (calls_of setup journal)
 
--- A journal has gained the entries of the calls in order. Each may come there, and each call was told the machine's reply to its entry.
-pub record Journals {F : Type 0} (lib : Library F) (cache : ℕ) (old new : List Entry) (calls : List (CallOf F)) : Type 0 where
-  pub added : new ≡ old ++ map entry_of calls
-  pub legal : AreLegal lib cache (length old) (map entry_of calls) (state_after lib cache old)
-  pub answered : map (λ call. call.told) calls ≡ replies lib cache (length old) (map entry_of calls) (state_after lib cache old)
+-- The entries of one pass.
+abbrev pub own : ℕ → List Entry → List Entry
+own pass entries = filter (λ e. e.pass == pass) entries
+
+abbrev pub own_calls : {F : Type 0} → ℕ → List (CallOf F) → List (CallOf F)
+own_calls pass calls = filter (λ call. call.pass == pass) calls
+
+-- The calls of one pass in a journal, with what each was told.
+abbrev pub heard : {F : Type 0} → Setup F → ℕ → List Entry → List (CallOf F)
+heard setup pass journal = own_calls pass (calls_of setup journal)

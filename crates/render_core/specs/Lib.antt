@@ -1,7 +1,10 @@
 pub mod Claim
+pub mod Export
 pub mod State
 pub mod Step
+pub mod Calls
+pub mod Runs
 pub mod Board
 pub mod Parts
-pub mod Calls
 pub mod Numbers
+pub mod Waiting

@@ -1,7 +1,7 @@
 //! Ranges of frames of a timeline.
 
 ghost use Rattle.std.specs.Prelude.{◌≡◌, ◌+◌, ◌^◌, ◌<◌, ◌≤◌, length};
-ghost use Rattle.time_list.specs.Cells.{is_among};
+ghost use Rattle.tl_model.specs.Cells.{is_among};
 ghost use Rattle.render_core.specs.State.{range};
 
 use time_list::{Lane, recipe_in};

@@ -1,18 +1,24 @@
-//! The editing core: a timeline under edits, wanted frames as jobs, filed results, plays, and one journal of the calls.
+//! The editing core: a timeline under edits, wanted frames as jobs, filed results, plays, exports, and one journal of the calls.
 #![tactic(auto)]
 
 mod board;
 mod claim;
-mod filed;
+mod export;
 mod frames;
 mod job;
+mod jobs;
 mod machine;
 mod reply;
+mod results;
 
 pub use board::Board;
 pub use claim::{Claim, Stopper};
+pub use export::{ExportJob, Stage};
 pub use job::Job;
-pub use reply::{CancelReply, ClaimReply, FileReply, Full, PlayReply, ReleaseReply, WantReply};
+pub use reply::{
+    AskReply, CancelReply, ClaimReply, FileReply, Full, PlayReply, ReleaseReply, ShowReply,
+    TakeReply, WantReply,
+};
 
 #[cfg(test)]
 mod tests;

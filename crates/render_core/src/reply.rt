@@ -1,6 +1,7 @@
 //! What the board answers.
 
 use crate::claim::Claim;
+use crate::export::ExportJob;
 use std::sync::Arc;
 use tl_model::{Recipe, RenderFault};
 
@@ -71,4 +72,37 @@ pub enum PlayReply<F> {
     Pending { recipe: Recipe },
     /// The timeline has `len` frames.
     PastEnd { len: u32 },
+}
+
+/// What answers a show.
+#[derive(Drop)]
+pub enum ShowReply<F> {
+    /// The frame's picture, shared with the filed result.
+    Frame(Arc<F>),
+    /// The frame's recipe is filed, and couldn't be rendered.
+    Fault(RenderFault),
+    /// The frame's recipe isn't filed, and is to be rendered by the caller.
+    Render { recipe: Recipe },
+    /// The timeline has `len` frames.
+    PastEnd { len: u32 },
+}
+
+/// What answers an ask for an export.
+#[derive(Clone, Copy, Debug, PartialEq, Eq)]
+pub enum AskReply {
+    /// The export's number, from 1.
+    Asked { export: u64 },
+    /// The timeline has no frame.
+    EmptyTimeline,
+}
+
+/// What answers a take. The last two append no entry.
+#[derive(Debug)]
+pub enum TakeReply {
+    /// The lowest export that nobody took.
+    Taken(ExportJob),
+    /// Every export is taken; the journal has `len` entries.
+    Idle { len: u64 },
+    /// Every export is taken, and the session was stopped; the journal has `len` entries.
+    Stopped { len: u64 },
 }

@@ -1,16 +1,40 @@
 //! A session of three passes that plays a table of calls. Passes 1 and 2 may each hold a job.
 
-ghost use Rattle.std.specs.Prelude.{ℕ, ◌^◌, ◌≤◌};
+ghost use Rattle.std.specs.Prelude.{◌≤◌};
+ghost use Rattle.tl_limits.specs.Limits.{IsJournalLimit};
 
 use super::numbers::Numbers;
 use crate::board::Board;
 use crate::claim::{Claim, Stopper};
-use crate::reply::{CancelReply, ClaimReply, FileReply, Full, PlayReply, ReleaseReply, WantReply};
+use crate::reply::{
+    AskReply, CancelReply, ClaimReply, FileReply, Full, PlayReply, ReleaseReply, ShowReply, TakeReply, WantReply,
+};
 use std::alloc::Global;
 use std::marker::Model;
 use std::process::Abort;
 use time_list::ListLane;
-use tl_model::{Act, Edit, EditReply, Recipe, RenderFault, Rendered};
+use tl_model::{Edit, EditReply, Ending, Name, Recipe, RenderFault, Rendered};
+
+/// A call of a pass.
+#[derive(Drop)]
+pub(super) enum Call {
+    Edit(Edit),
+    Undo,
+    Redo,
+    Want { first: u32, len: u32 },
+    Cancel { first: u32, len: u32 },
+    Claim,
+    File { job: u64 },
+    Release { job: u64 },
+    Play { n: u32 },
+    Show { n: u32 },
+    Ask,
+    /// A take, and the end of what was taken.
+    Export(Ending),
+    Mark { turns: u32 },
+    Skip,
+    Stop,
+}
 
 /// What a call was told.
 #[derive(Clone, Copy, Debug, PartialEq, Eq)]
@@ -26,15 +50,20 @@ pub(super) enum Told {
     Frame(u8),
     Fault(RenderFault),
     Pending(Recipe),
+    Render(Recipe),
     PastEnd { len: u32 },
+    Asked(AskReply),
+    /// The export's number, and the length of its first segment.
+    Taken { export: u64, len: u32 },
     Silent,
     Full(Full),
 }
 
 /// A call of a pass, and what it is to be told.
+#[derive(Drop)]
 pub(super) struct Row {
     pub(super) pass: u32,
-    pub(super) act: Act,
+    pub(super) call: Call,
     pub(super) told: Told,
 }
 
@@ -65,12 +94,16 @@ struct Session {
 
 type Numbered = Board<Numbers, ListLane>;
 
-fn edited(rt: &impl Abort, alloc: Global, board: &mut Numbered, pass: u32, edit: &Edit) -> Told {
-    assert!(rt; edit.is_well_formed());
-    match board.edit(alloc, pass, &Numbers, edit) {
+fn edited(made: Result<EditReply, Full>) -> Told {
+    match made {
         Ok(reply) => Told::Edited(reply),
         Err(why) => Told::Full(why),
     }
+}
+
+fn edit(rt: &impl Abort, alloc: Global, board: &mut Numbered, pass: u32, edit: &Edit) -> Told {
+    assert!(rt; edit.is_well_formed());
+    edited(board.edit(alloc, pass, &Numbers, edit))
 }
 
 fn wanted(board: &mut Numbered, pass: u32, first: u32, len: u32) -> Told {
@@ -128,6 +161,45 @@ fn played(board: &mut Numbered, pass: u32, n: u32) -> Told {
     }
 }
 
+fn shown(board: &mut Numbered, pass: u32, n: u32) -> Told {
+    match board.show(pass, n) {
+        Ok(ShowReply::Frame(frame)) => Told::Frame(*frame),
+        Ok(ShowReply::Fault(fault)) => Told::Fault(fault),
+        Ok(ShowReply::Render { recipe }) => Told::Render(recipe),
+        Ok(ShowReply::PastEnd { len }) => Told::PastEnd { len },
+        Err(why) => Told::Full(why),
+    }
+}
+
+fn asked(rt: &impl Abort, alloc: Global, board: &mut Numbered, pass: u32) -> Told {
+    let text = String::from_str(alloc, "o.mkv").expect(rt, "memory");
+    match board.ask_export(alloc, pass, &Name::from_text(text)) {
+        Ok(reply) => Told::Asked(reply),
+        Err(why) => Told::Full(why),
+    }
+}
+
+fn exported(rt: &impl Abort, board: &mut Numbered, pass: u32, ending: Ending) -> Told {
+    match board.take_export(pass) {
+        TakeReply::Taken(job) => {
+            let export = job.export();
+            assert!(rt; job.name().as_str() == "o.mkv");
+            let len = job.state().as_slice().first().map_or(0, |segment| segment.len);
+            board.end_export(pass, job, ending);
+            Told::Taken { export, len }
+        }
+        TakeReply::Idle { len } => Told::Idle { len },
+        TakeReply::Stopped { len } => Told::Stopped { len },
+    }
+}
+
+fn noted(made: Result<(), Full>) -> Told {
+    match made {
+        Ok(()) => Told::Silent,
+        Err(why) => Told::Full(why),
+    }
+}
+
 fn stopped(rt: &impl Abort, board: &mut Numbered, stopper: Option<Stopper>) -> Told {
     let stopper = stopper.expect(rt, "the right to stop");
     assert!(rt; !board.is_stopped());
@@ -150,8 +222,7 @@ fn is_spent(hand: Option<Hand>) -> bool {
 impl Session {
     fn start(rt: &impl Abort, alloc: Global, cache: u32, limit: u64) -> Session
         requires cache { 1 ≤ cache }
-        requires some { 1 ≤ limit }
-        requires few { limit ≤ 2 ^ 40 }
+        requires limit { IsJournalLimit limit }
     {
         let (mut board, stopper) = Board::start(alloc, &Numbers, cache, limit).expect(rt, "memory");
         assert!(rt; board.reserve(2).is_ok() && board.spare() >= 2);
@@ -173,30 +244,44 @@ impl Session {
         hand.expect(rt, "a claim in hand")
     }
 
-    fn make(&mut self, rt: &impl Abort, alloc: Global, pass: u32, act: &Act) -> Told {
-        match act {
-            Act::Edit(edit) => edited(rt, alloc, &mut self.board, pass, edit),
-            Act::Want { first, len } => wanted(&mut self.board, pass, *first, *len),
-            Act::Cancel { first, len } => cancelled(&mut self.board, pass, *first, *len),
-            Act::Claim => {
+    fn make(&mut self, rt: &impl Abort, alloc: Global, pass: u32, call: &Call) -> Told {
+        match call {
+            Call::Edit(change) => edit(rt, alloc, &mut self.board, pass, change),
+            Call::Undo => edited(self.board.undo(alloc, pass)),
+            Call::Redo => edited(self.board.redo(alloc, pass)),
+            Call::Want { first, len } => wanted(&mut self.board, pass, *first, *len),
+            Call::Cancel { first, len } => cancelled(&mut self.board, pass, *first, *len),
+            Call::Claim => {
                 if pass == 2 {
                     claimed(rt, &mut self.board, pass, &mut self.second)
                 } else {
                     claimed(rt, &mut self.board, pass, &mut self.first)
                 }
             }
-            Act::File { job } => {
+            Call::File { job } => {
                 let hand = self.hand(rt, pass);
                 assert!(rt; hand.claim.job() == *job);
                 filed(rt, alloc, &mut self.board, pass, hand)
             }
-            Act::Release { job } => {
+            Call::Release { job } => {
                 let hand = self.hand(rt, pass);
                 assert!(rt; hand.claim.job() == *job);
                 released(rt, &mut self.board, pass, hand)
             }
-            Act::Play { n } => played(&mut self.board, pass, *n),
-            Act::Stop => stopped(rt, &mut self.board, self.stopper.take()),
+            Call::Play { n } => played(&mut self.board, pass, *n),
+            Call::Show { n } => shown(&mut self.board, pass, *n),
+            Call::Ask => asked(rt, alloc, &mut self.board, pass),
+            Call::Export(ending) => exported(rt, &mut self.board, pass, *ending),
+            Call::Mark { turns } => noted(self.board.mark(pass, *turns)),
+            Call::Skip => noted(self.board.skip(pass)),
+            Call::Stop => stopped(rt, &mut self.board, self.stopper.take()),
+        }
+    }
+
+    fn play(&mut self, rt: &impl Abort, alloc: Global, rows: &[Row]) {
+        for (i, row) in rows.iter().enumerate() {
+            let told = self.make(rt, alloc, row.pass, &row.call);
+            assert_eq!(rt; told, row.told, "at row {i}");
         }
     }
 
@@ -221,13 +306,38 @@ impl Session {
 /// Plays the calls of a table on a new board. Each is to be told what its row says.
 pub(super) fn play_rows(rt: &impl Abort, alloc: Global, cache: u32, limit: u64, rows: &[Row])
     requires cache { 1 ≤ cache }
-    requires some { 1 ≤ limit }
-    requires few { limit ≤ 2 ^ 40 }
+    requires limit { IsJournalLimit limit }
 {
     let mut session = Session::start(rt, alloc, cache, limit);
-    for (i, row) in rows.iter().enumerate() {
-        let told = session.make(rt, alloc, row.pass, &row.act);
-        assert_eq!(rt; told, row.told, "at row {i}");
-    }
+    session.play(rt, alloc, rows);
     session.end(rt);
+}
+
+/// An act that comes while a job is held, and what it and the job's end are told.
+#[derive(Drop)]
+pub(super) struct Late {
+    pub(super) call: Call,
+    pub(super) told: Told,
+    pub(super) filed: FileReply,
+    pub(super) released: ReleaseReply,
+}
+
+/// Plays the rows before, and then each act with the end of job 1 by its result, and with its release.
+pub(super) fn play_late(rt: &impl Abort, alloc: Global, before: &[Row], late: &[Late]) {
+    for (i, act) in late.iter().enumerate() {
+        for by_result in [true, false] {
+            let mut session = Session::start(rt, alloc, 4, 100);
+            session.play(rt, alloc, before);
+            let told = session.make(rt, alloc, 0, &act.call);
+            assert_eq!(rt; told, act.told, "the act of row {i}");
+            let (end, wanted) = if by_result {
+                (Call::File { job: 1 }, Told::Filed(act.filed))
+            } else {
+                (Call::Release { job: 1 }, Told::Released(act.released))
+            };
+            let told = session.make(rt, alloc, 1, &end);
+            assert_eq!(rt; told, wanted, "the end of row {i}");
+            session.end(rt);
+        }
+    }
 }

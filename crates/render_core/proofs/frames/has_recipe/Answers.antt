@@ -1,5 +1,5 @@
 use Rattle.std.proofs.Common.{◌≡◌, ◌+◌, Bool, true, false, ◌||◌, sym, ◌∙◌, arith}
-use Rattle.time_list.specs.Cells.{recipes}
+use Rattle.tl_model.specs.Cells.{recipes}
 use Rattle.render_core.proofs.Ranges.{among_next}
 use Rattle.render_core.proofs.frames.has_recipe.Goals as goal
 

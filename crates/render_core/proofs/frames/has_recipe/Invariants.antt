@@ -1,5 +1,5 @@
 use Rattle.std.proofs.Common.{◌≡◌, ◌-◌, ◌+◌, take, drop}
-use Rattle.time_list.specs.Cells.{recipes, is_among}
+use Rattle.tl_model.specs.Cells.{recipes, is_among}
 use Rattle.render_core.specs.State.{range}
 use Rattle.render_core.proofs.frames.has_recipe.Given as goal
 

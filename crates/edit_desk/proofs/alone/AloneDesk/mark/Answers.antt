@@ -1,0 +1,12 @@
+use Rattle.std.proofs.Common.{refl, subst}
+use Rattle.tl_model.specs.declared.journal.Act.TheVariants as act
+use Rattle.render_core.specs.Board.{of_done}
+use Rattle.edit_desk.specs.Desk.{DeskOf, Answers}
+use Rattle.edit_desk.specs.Alone.{desk_of}
+use Rattle.edit_desk.proofs.Calls.{does_answers}
+use Rattle.edit_desk.proofs.alone.AloneDesk.mark.Goals as goal
+
+pub returns : goal.returns
+returns g c =
+    subst (λ (d : DeskOf _ _). Answers g.M.Media.library d (desk_of c.mark.new.self) (record { act = act.Mark c.args.turns; view = of_done }) c.mark.result) c.self.view_is
+    (does_answers g.M.Media.library c.self.inside.board c.mark.new.self (record { pass = 0; act = act.Mark c.args.turns; view = of_done }) c.mark.result refl c.mark.ensures.done)

@@ -1,0 +1,12 @@
+use Rattle.std.proofs.Common.{refl, subst}
+use Rattle.tl_model.specs.declared.journal.Act.TheVariants as act
+use Rattle.render_core.specs.Board.{of_done}
+use Rattle.edit_desk.specs.Desk.{DeskOf, Enters}
+use Rattle.edit_desk.specs.Alone.{desk_of}
+use Rattle.edit_desk.proofs.Calls.{makes_enters}
+use Rattle.edit_desk.proofs.alone.AloneDesk.stop.Goals as goal
+
+pub returns : goal.returns
+returns g c =
+    subst (λ (d : DeskOf _ _). Enters g.M.Media.library d (desk_of c.stop.new.self) (act.Stop) (of_done tt)) c.self.view_is
+    (makes_enters g.M.Media.library c.self.inside.board c.stop.new.self (act.Stop) (of_done tt) c.stop.ensures.made)

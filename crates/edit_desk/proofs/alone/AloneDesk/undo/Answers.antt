@@ -1,0 +1,12 @@
+use Rattle.std.proofs.Common.{refl, subst}
+use Rattle.tl_model.specs.declared.journal.Act.TheVariants as act
+use Rattle.render_core.specs.Board.{of_edit}
+use Rattle.edit_desk.specs.Desk.{DeskOf, Answers}
+use Rattle.edit_desk.specs.Alone.{desk_of}
+use Rattle.edit_desk.proofs.Calls.{does_answers}
+use Rattle.edit_desk.proofs.alone.AloneDesk.undo.Goals as goal
+
+pub returns : goal.returns
+returns g c =
+    subst (λ (d : DeskOf _ _). Answers g.M.Media.library d (desk_of c.undo.new.self) (record { act = act.Undo; view = of_edit }) c.undo.result) c.self.view_is
+    (does_answers g.M.Media.library c.self.inside.board c.undo.new.self (record { pass = 0; act = act.Undo; view = of_edit }) c.undo.result refl c.undo.ensures.done)

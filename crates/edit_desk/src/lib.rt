@@ -1,0 +1,11 @@
+//! The calls of one caller on an editing core, as a trait, and the caller of a board of its own.
+#![tactic(auto)]
+
+mod alone;
+mod desk;
+
+pub use alone::Alone;
+pub use desk::Desk;
+
+#[cfg(test)]
+mod tests;

@@ -1,7 +1,0 @@
-use Rattle.std.proofs.Common.{◌≡◌, ◌++◌, map, take, drop}
-use Rattle.time_list.specs.Cells.{is_among}
-use Rattle.render_core.specs.State.{close_if, range}
-use Rattle.render_core.proofs.job.close_range_in.Given as goal
-
-abbrev pub invariant-loop-job : goal.invariant-loop-job
-invariant-loop-job g l = l.jobs ≡ map (close_if (λ recipe. is_among recipe (range l.first l.len (g.L.Lane.cells l.lane))) l.at) (take l.job-index l.fn.jobs) ++ drop l.job-index l.fn.jobs

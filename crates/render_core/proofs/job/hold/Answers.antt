@@ -1,9 +1,0 @@
-use Rattle.render_core.specs.State.{held}
-use Rattle.render_core.proofs.Jobs.{update_is, read_is}
-use Rattle.render_core.proofs.job.hold.Goals as goal
-
-pub returns-clause-jobs : goal.returns-clause-jobs
-returns-clause-jobs c = update_is (held c.args.by) c.args.jobs.now.items c.args.place c.index-job.result.now (read_is c.args.jobs.now.items c.args.place c.index-job.result.now c.requires c.index-job.ensures)
-
-pub returns-clause-job : goal.returns-clause-job
-returns-clause-job c = read_is c.args.jobs.now.items c.args.place c.index-job.result.now c.requires c.index-job.ensures
