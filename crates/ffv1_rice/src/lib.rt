@@ -1,0 +1,8 @@
+//! Golomb-Rice mode of FFV1 version 3, both ways: RFC 9043 section 3.8.2.
+//!
+//! A sample difference is coded as a number by a state of its context, or lies in a run of differences 0.
+#![tactic(auto)]
+
+mod reader;
+
+pub use reader::BitReader;
