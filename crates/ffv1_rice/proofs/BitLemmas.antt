@@ -2,7 +2,7 @@
 use Rattle.std.proofs.Common.{◌≡◌, ℕ, zero, suc, ◌+◌, ◌-◌, ◌*◌, ◌/◌, ◌%◌, ◌^◌, ◌<◌, ◌≤◌, List, [], ◌∷◌, ◌++◌, length, drop, take, min, replicate, refl, sym, ap, ◌∙◌, subst, arith, inl, inr, ◌⊎◌, length-append, append_assoc}
 use Rattle.std.specs.Prelude.{slice_index}
 use Rattle.std.specs.Int.{bit_at}
-use Rattle.std.specs.List.{flat_map, AllByRecursion}
+use Rattle.std.specs.List.{flat_map}
 use Rattle.std.proofs.lemmas.Nat.Bits.{bit_at-lt}
 use Rattle.std.proofs.lemmas.Nat.{pow-add, shr-shr, shl-shr, shr_high, shl_below, mod-pow-add, mod-mul-add, mul-add-lt, pow_pos}
 use Rattle.std.proofs.lemmas.Bool.{cases_lt}
@@ -12,10 +12,8 @@ use Rattle.std.proofs.Math.Seq.{drop-nil, drop-append-add}
 use Rattle.tl_base.specs.Parity.{bits_of}
 use Rattle.byteorder.specs.Endian.{big_from, big_number}
 use Rattle.byteorder.specs.Numbers.{big_from-cons}
+use Rattle.ffv1_rice.specs.Window.{AreBits}
 use Rattle.ffv1_rice.specs.Bits.{bits_of_bytes, number_at, zeros_at}
-
-abbrev pub AreBits : List ℕ → Type 0
-AreBits bits = AllByRecursion (λ b. b < 2) bits
 
 pub are_bits-of : (n v : ℕ) → AreBits (bits_of n v)
 are_bits-of zero v = tt
@@ -160,7 +158,7 @@ window-number w n r m bits are e =
     let fits : b * 2 ^ r < 2 ^ (n + m + r) = shl_below b (n + m) r (number_at-lt (n + m) d are_d) in
     let fits' : b * 2 ^ r < 2 ^ w = subst (λ (k : ℕ). b * 2 ^ r < 2 ^ k) e fits in
     let rest : (number_at w bits * 2 ^ r) % 2 ^ w ≡ b * 2 ^ r =
-        ap (λ x. x * 2 ^ r % 2 ^ w) split ∙ ap (λ x. x % 2 ^ w) (product ∙ ap (λ x. a * x + b * 2 ^ r) (sym power)) ∙ mod-mul-add a (2 ^ w) (b * 2 ^ r) fits' in
+    ap (λ x. x * 2 ^ r % 2 ^ w) split ∙ ap (λ x. x % 2 ^ w) (product ∙ ap (λ x. a * x + b * 2 ^ r) (sym power)) ∙ mod-mul-add a (2 ^ w) (b * 2 ^ r) fits' in
     let lower : b ≡ c * 2 ^ m + low = number_at-split n m d in
     let high : b * 2 ^ r ≡ c * 2 ^ (m + r) + low * 2 ^ r = ap (λ x. x * 2 ^ r) lower ∙ rw (pow-add 2 m r) (omega arith) in
     ap (λ x. x / 2 ^ (m + r)) (rest ∙ high) ∙ shr_high c (m + r) (low * 2 ^ r) (shl_below low m r (number_at-lt m (drop n d) (are_bits-drop n d are_d)))

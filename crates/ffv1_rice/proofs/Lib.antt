@@ -1,2 +1,5 @@
 pub mod BitLemmas
 pub mod ReaderLemmas
+pub mod CodeLemmas
+pub mod StateLemmas
+pub mod DifferenceLemmas

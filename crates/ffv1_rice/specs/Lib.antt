@@ -1,2 +1,5 @@
 pub mod Bits
 pub mod Code
+pub mod State
+pub mod Tally
+pub mod Window

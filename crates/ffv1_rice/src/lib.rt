@@ -3,6 +3,9 @@
 //! A sample difference is coded as a number by a state of its context, or lies in a run of differences 0.
 #![tactic(auto)]
 
+mod code;
 mod reader;
+mod state;
 
 pub use reader::BitReader;
+pub use state::{OutOfRange, VlcState};

@@ -2,7 +2,9 @@
 ghost use Rattle.std.specs.Prelude.{◌≡◌, ℕ, ◌+◌, ◌*◌, ◌/◌, ◌^◌, ◌-◌, ◌<◌, ◌≤◌, ◌==◌, min, List, length, drop, slice_index};
 ghost use Rattle.ffv1_rice.specs.Bits.{bits_of_bytes, number_at, zeros_at, opened, skipped};
 ghost use Rattle.ffv1_rice.specs.Code.{coded_at, length_at};
+ghost use Rattle.ffv1_rice.specs.Window.{IsWindow};
 
+use crate::code::{Coded, code_of, highest};
 use byteorder::{BigEndian, ByteOrder};
 use std::marker::Model;
 
@@ -66,6 +68,25 @@ impl<'a> BitReader<'a> {
         self.position = later(self.position, count);
         highest(word, count)
     }
+
+    // The code that comes next, with a parameter.
+    #[inline(always)]
+    pub(crate) fn next_code(&self, k: u32) -> Coded
+        requires { k ≤ 8 }
+        ensures number { result.number ≡ coded_at k self.now.bits }
+        ensures length { result.length ≡ length_at k self.now.bits }
+        ensures short { result.length ≤ 20 }
+    {
+        code_of(window(self.bytes, self.position), k)
+    }
+
+    // Passes over some bits.
+    #[inline(always)]
+    pub(crate) fn skip(&mut self, count: u32)
+        ensures { self.new ≡ skipped count self.old }
+    {
+        self.position = later(self.position, count);
+    }
 }
 
 // The position some bits further on.
@@ -77,20 +98,11 @@ fn later(position: u64, count: u32) -> u64
     (position + u64::from(count)).min(MOST_TAKEN)
 }
 
-// The highest bits of a window, as a number.
-#[inline(always)]
-fn highest(word: u64, count: u32) -> u32
-    requires { count ≤ 32 }
-    ensures { result ≡ word / 2 ^ (64 - count) }
-{
-    ((word >> 32) >> (32 - count)) as u32
-}
-
 // The bits at a position: of the next bits, for each count up to 57, the highest ones of the result.
 #[inline(always)]
 fn window(bytes: &[u8], position: u64) -> u64
     requires { position ≤ 2 ^ 63 }
-    ensures { (n : ℕ) → n ≤ 57 → result / 2 ^ (64 - n) ≡ number_at n (drop position (bits_of_bytes bytes.now)) }
+    ensures { IsWindow result (drop position (bits_of_bytes bytes.now)) }
 {
     let word = word_at(bytes, (position / 8) as usize);
     word << (position % 8)

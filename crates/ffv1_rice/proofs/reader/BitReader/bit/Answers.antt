@@ -5,7 +5,7 @@ use Rattle.ffv1_rice.proofs.reader.BitReader.bit.Goals as goal
 
 pub returns-clause-bit : goal.returns-clause-bit
 returns-clause-bit c =
-    ap (λ n. nat_eq n 1) (c.window-word.ensures 1 (omega arith)) ∙ ap (λ r. nat_eq (number_at 1 r.bits) 1) c.self.view_is
+    ap (λ n. nat_eq n 1) (c.window-word.ensures.highest 1 (omega arith)) ∙ ap (λ r. nat_eq (number_at 1 r.bits) 1) c.self.view_is
 
 pub returns-clause-reader : goal.returns-clause-reader
 returns-clause-reader c =
