@@ -3,3 +3,4 @@ pub mod ReaderLemmas
 pub mod CodeLemmas
 pub mod StateLemmas
 pub mod DifferenceLemmas
+pub mod PutLemmas

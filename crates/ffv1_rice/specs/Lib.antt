@@ -3,3 +3,4 @@ pub mod Code
 pub mod State
 pub mod Tally
 pub mod Window
+pub mod Writer

@@ -6,6 +6,8 @@
 mod code;
 mod reader;
 mod state;
+mod writer;
 
 pub use reader::BitReader;
 pub use state::{OutOfRange, VlcState};
+pub use writer::BitWriter;
