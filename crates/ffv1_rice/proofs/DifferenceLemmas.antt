@@ -7,8 +7,8 @@ use Rattle.std.proofs.lemmas.Int.{ints}
 use Rattle.std.proofs.lemmas.Bool.{lt-leb}
 use Rattle.tl_base.specs.Arithmetic.{folded}
 use Rattle.ffv1_rice.specs.Bits.{Reading, skipped}
-use Rattle.ffv1_rice.specs.Code.{coded_at, length_at, signed_of}
-use Rattle.ffv1_rice.specs.State.{State, Difference, parameter, turned, is_residual, corrected, updated, residual_at, difference_at}
+use Rattle.ffv1_rice.specs.Code.{code, coded_at, length_at, signed_of, unsigned_of}
+use Rattle.ffv1_rice.specs.State.{State, Difference, parameter, turned, is_residual, corrected, updated, residual_at, difference_at, residual_of, difference_bits, state_after}
 
 -- ---- correcting a state
 pub corrected-low : (s : State) (drift bias : ℤ) → s.drift ≤ℤ neg_ℤ (pos s.count) →
@@ -92,3 +92,20 @@ signed-fits u h =
       | true ↦ omega (arith, ints)
       | false ↦ omega (arith, ints)
     ]
+
+-- ---- writing
+pub number-fits : (v : ℤ) → negsuc 127 ≤ℤ v → v ≤ℤ pos 127 → to_z w32 (of_z w32 v) ≡ v
+number-fits v low high = small_fits v (wider v low) high
+
+-- a difference less a bias
+pub gap_fits : (a b : ℤ) → negsuc 127 ≤ℤ a → a ≤ℤ pos 127 → negsuc 127 ≤ℤ b → b ≤ℤ pos 127 → to_z w32 (of_z w32 (a -ℤ b)) ≡ a -ℤ b
+gap_fits a b p q r s = omega (arith, ints)
+
+pub written-bits : (s : State) (d v w : ℤ) (k u : ℕ) → v ≡ folded (d -ℤ s.bias) → w ≡ turned s v → u ≡ unsigned_of w → k ≡ parameter s → code k u ≡ difference_bits s d
+unfolding difference_bits residual_of
+written-bits s d v w k u e f g h =
+    ap (λ n. code n u) h ∙ ap (code (parameter s)) (g ∙ ap unsigned_of (f ∙ ap (turned s) e))
+
+pub written-state : (s after : State) (d v : ℤ) → v ≡ folded (d -ℤ s.bias) → after ≡ updated s v → after ≡ state_after s d
+unfolding state_after residual_of
+written-state s after d v e f = f ∙ ap (updated s) e

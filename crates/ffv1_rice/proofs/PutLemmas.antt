@@ -4,11 +4,13 @@ use Rattle.std.specs.Int.{bit_at, byte_at, bytes_high_first}
 use Rattle.std.proofs.lemmas.Nat.Bits.{bit_at_cat_low, bit_at-zero}
 use Rattle.std.proofs.lemmas.Nat.{pow-add, shr-shr, shr_high, shr_split, shl_below, mod-mul-add, pow_pos, mul-add-lt}
 use Rattle.std.proofs.lemmas.List.{take-replicate}
-use Rattle.std.proofs.Math.Nat.{pow-suc, mod-lt, mod-eq_of_lt, div-eq_of_lt, mul-mod_left}
+use Rattle.std.proofs.Math.Nat.{pow-suc, pow-le-pow_right, mod-lt, div-eq_of_lt}
+use Rattle.std.proofs.lemmas.Bool.{lt-ltb, le-ltb}
 use Rattle.std.proofs.Math.Seq.{take-append-add, take-nil}
 use Rattle.std.proofs.lemmas.Grind.{flat_map-append}
 use Rattle.tl_base.specs.Parity.{bits_of}
 use Rattle.ffv1_rice.specs.Bits.{bits_of_bytes, padded}
+use Rattle.ffv1_rice.specs.Code.{code}
 use Rattle.ffv1_rice.specs.Writer.{bits_written}
 use Rattle.ffv1_rice.proofs.BitLemmas.{length-bits_of, length-bits_of_bytes}
 
@@ -152,3 +154,34 @@ same-word items word free number count new less most is =
     ap (λ n. bits_of_bytes items ++ bits_of n new) left ∙ ap (λ (xs : List ℕ). bits_of_bytes items ++ xs) is
     ∙ sym (append_assoc (bits_of_bytes items) (bits_of (64 - free) word) (bits_of count number))
     ∙ ap (λ n. (bits_of_bytes items ++ bits_of n word) ++ bits_of count number) (sym held)
+
+-- ---- codes
+zero_above : (n m x : ℕ) → x < 2 ^ m → bits_of n (x / 2 ^ m) ≡ replicate n 0
+zero_above n m x h = ap (bits_of n) (div-eq_of_lt h) ∙ bits_of-zero n
+
+-- a prefix and the bits below it, as one number
+pub prefix-code : (k u : ℕ) → u / 2 ^ k < 12 → bits_of (u / 2 ^ k + 1 + k) (2 ^ k + u % 2 ^ k) ≡ code k u
+unfolding code
+prefix-code k u few =
+    let prefix = u / 2 ^ k in
+    let low = u % 2 ^ k in
+    let below : low < 2 ^ k = mod-lt u (pow_pos k) in
+    let e : prefix + 1 + k ≡ prefix + (suc k) = omega arith in
+    let one : 2 ^ k + low ≡ 1 * 2 ^ k + low = omega arith in
+    let fits : 2 ^ k + low < 2 ^ suc k = rw (pow-suc 2 k) (omega (arith, below)) in
+    let quotient : (2 ^ k + low) / 2 ^ k ≡ 1 = ap (λ x. x / 2 ^ k) one ∙ shr_high 1 k low below in
+    let bit : bit_at (2 ^ k + low) k ≡ 1 = ap (λ x. x % 2) quotient in
+    let rest : bits_of k (2 ^ k + low) ≡ bits_of k u = ap (bits_of k) one ∙ bits_of-cat k k 1 low (omega arith) ∙ bits_of-mod k k u (omega arith) in
+    ap (λ n. bits_of n (2 ^ k + low)) e ∙ bits_of-split prefix (suc k) (2 ^ k + low)
+    ∙ rw (zero_above prefix (suc k) (2 ^ k + low) fits, bit, rest, lt-ltb prefix 12 few) refl
+
+pub escape-code : (k u : ℕ) → u < 256 → 12 ≤ u / 2 ^ k → bits_of 20 (u - 11) ≡ code k u
+unfolding code
+escape-code k u small many =
+    bits_of-split 12 8 (u - 11) ∙ ap (λ (xs : List ℕ). xs ++ bits_of 8 (u - 11)) (zero_above 12 8 (u - 11) (omega arith)) ∙ rw (le-ltb (u / 2 ^ k) 12 many) refl
+
+pub prefix-fits : (k u : ℕ) → 2 ^ k + u % 2 ^ k < 2 ^ (u / 2 ^ k + 1 + k)
+prefix-fits k u =
+    let below : u % 2 ^ k < 2 ^ k = mod-lt u (pow_pos k) in
+    let power = pow-le-pow_right {n = 2} (omega arith) {i = suc k} {j = u / 2 ^ k + 1 + k} (omega arith) in
+    omega (arith, below, power, pow-suc 2 k)

@@ -1,7 +1,10 @@
 //! Codes of numbers in a word of bits. RFC 9043 section 3.8.2.1.
-ghost use Rattle.std.specs.Prelude.{◌≡◌, ℕ, ◌-◌, ◌/◌, ◌^◌, ◌<◌, ◌≤◌, List};
-ghost use Rattle.ffv1_rice.specs.Code.{coded_at, length_at};
+ghost use Rattle.std.specs.Prelude.{◌≡◌, ℕ, ◌-◌, ◌/◌, ◌^◌, ◌<◌, ◌≤◌, ◌++◌, List, OnOk, OnErr};
+ghost use Rattle.ffv1_rice.specs.Code.{code, coded_at, length_at};
 ghost use Rattle.ffv1_rice.specs.Window.{IsWindow};
+
+use crate::writer::BitWriter;
+use std::alloc::AllocError;
 
 /// A number that was read, and how many bits its code has.
 #[derive(Clone, Copy)]
@@ -38,6 +41,24 @@ pub(crate) fn code_of(word: u64, k: u32) -> Coded
         number: highest(word, length) + zeros * one - one,
         length,
     }
+}
+
+// Writes the code of a number.
+#[inline(always)]
+pub(crate) fn put_code(bits: &mut BitWriter, k: u32, u: u32) -> Result<(), AllocError>
+    requires parameter { k ≤ 8 }
+    requires number { u < 256 }
+    ensures ok { OnOk result (bits.new ≡ bits.old ++ code k u) }
+    ensures err { OnErr result (bits.new ≡ bits.old) }
+{
+    let one = power(k);
+    let prefix = u / one;
+    if prefix < ESCAPE_ZEROS {
+        bits.put(one + u % one, prefix + 1 + k)?;
+    } else {
+        bits.put(u - ESCAPED_FROM, ESCAPE_ZEROS + 8)?;
+    }
+    Ok(())
 }
 
 // The highest bits of a word, as a number.

@@ -1,12 +1,14 @@
 //! The state of a context, and the differences that it codes. RFC 9043 sections 3.8.2.2 and 3.8.2.3.
-ghost use Rattle.std.specs.Prelude.{◌≡◌, ℕ, ◌+◌, ◌*◌, ◌^◌, ◌<◌, ◌≤◌, ◌<ℤ◌, ◌≤ℤ◌, ◌+ℤ◌, ◌-ℤ◌, ◌*ℤ◌, pos, negsuc, neg_ℤ, IfOk, OnErr, Some, None, int_lt};
+ghost use Rattle.std.specs.Prelude.{◌≡◌, ℕ, ◌+◌, ◌*◌, ◌^◌, ◌<◌, ◌≤◌, ◌<ℤ◌, ◌≤ℤ◌, ◌+ℤ◌, ◌-ℤ◌, ◌*ℤ◌, pos, negsuc, neg_ℤ, ◌++◌, IfOk, OnOk, OnErr, Some, None, int_lt};
 ghost use Rattle.std.specs.Int.{int_min, int_max};
 ghost use Rattle.ffv1_rice.specs.Code.{signed_of, unsigned_of};
-ghost use Rattle.ffv1_rice.specs.State.{IsState, fresh, parameter, turned, summed, halved, counted, corrected, updated, difference_at};
+ghost use Rattle.ffv1_rice.specs.State.{IsState, fresh, parameter, turned, summed, halved, counted, corrected, updated, difference_at, difference_bits, state_after};
 ghost use Rattle.ffv1_rice.specs.Tally.{state_of};
 
-use crate::code::power;
+use crate::code::{power, put_code};
 use crate::reader::BitReader;
+use crate::writer::BitWriter;
+use std::alloc::AllocError;
 use std::marker::Model;
 use tl_base::fold8;
 
@@ -83,6 +85,23 @@ impl VlcState {
         self.tally = update(self.tally, residual);
         Ok(difference)
     }
+
+    /// Writes the difference of a sample, from -128 to 127. Want of memory leaves the state and the writer as they were.
+    #[inline]
+    pub fn write(&mut self, bits: &mut BitWriter, difference: i32) -> Result<(), AllocError>
+        requires least { negsuc 127 ≤ℤ difference }
+        requires most { difference ≤ℤ pos 127 }
+        ensures bits { OnOk result (bits.new ≡ bits.old ++ difference_bits self.old difference) }
+        ensures state { OnOk result (self.new ≡ state_after self.old difference) }
+        ensures bits_stay { OnErr result (bits.new ≡ bits.old) }
+        ensures state_stays { OnErr result (self.new ≡ self.old) }
+    {
+        let residual = fold8(difference - self.tally.bias);
+        let number = unsigned(turn(self.tally, residual));
+        put_code(bits, parameter_of(self.tally), number)?;
+        self.tally = update(self.tally, residual);
+        Ok(())
+    }
 }
 
 // The parameter of the next code.
@@ -114,6 +133,21 @@ fn signed(u: u32) -> i32
         -1 - (u / 2) as i32
     } else {
         (u / 2) as i32
+    }
+}
+
+// The number of a signed number.
+#[inline(always)]
+fn unsigned(v: i32) -> u32
+    requires least { negsuc 127 ≤ℤ v }
+    requires most { v ≤ℤ pos 127 }
+    ensures number { result ≡ unsigned_of v }
+    ensures small { result < 256 }
+{
+    if v < 0 {
+        2 * (-1 - v) as u32 + 1
+    } else {
+        2 * v as u32
     }
 }
 
