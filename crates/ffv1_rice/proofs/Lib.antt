@@ -4,3 +4,4 @@ pub mod CodeLemmas
 pub mod StateLemmas
 pub mod DifferenceLemmas
 pub mod PutLemmas
+pub mod RunLemmas

@@ -1,5 +1,7 @@
 pub mod Bits
 pub mod Code
+pub mod Place
+pub mod Runs
 pub mod State
 pub mod Tally
 pub mod Window

@@ -5,9 +5,11 @@
 
 mod code;
 mod reader;
+mod runs;
 mod state;
 mod writer;
 
 pub use reader::BitReader;
+pub use runs::{Mode, RunReader, Step};
 pub use state::{OutOfRange, VlcState};
 pub use writer::BitWriter;

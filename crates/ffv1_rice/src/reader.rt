@@ -62,6 +62,7 @@ impl<'a> BitReader<'a> {
     pub fn number(&mut self, count: u32) -> u32
         requires { count ≤ 32 }
         ensures number { result ≡ number_at count self.old.bits }
+        ensures fits { result < 2 ^ count }
         ensures reader { self.new ≡ skipped count self.old }
     {
         let word = window(self.bytes, self.position);
