@@ -5,3 +5,4 @@ pub mod StateLemmas
 pub mod DifferenceLemmas
 pub mod PutLemmas
 pub mod RunLemmas
+pub mod LineLemmas

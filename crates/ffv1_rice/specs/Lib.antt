@@ -1,5 +1,6 @@
 pub mod Bits
 pub mod Code
+pub mod Lines
 pub mod Place
 pub mod Runs
 pub mod State

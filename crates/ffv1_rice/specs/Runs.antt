@@ -140,10 +140,13 @@ sample_by context states (AfterRun, s) = difference_by raised context s states
 unfoldable pub sample_at : ℕ → ℕ → Coding → Option (ℤ × Coding)
 sample_at left context c = sample_by context c.states (next_step 1 left (context == 0) (source c.run c.reading))
 
+-- one difference, and those that follow it
+abbrev pub in_front : ℤ → Option (List ℤ × Coding) → Option (List ℤ × Coding)
+in_front d None = None
+in_front d (Some rest) = Some (d ∷ rest.0, rest.1)
+
 -- the differences of samples with these contexts, where so many are left in the line
 abbrev pub differences_at : ℕ → List ℕ → Coding → Option (List ℤ × Coding)
 differences_at left [] c = Some ([], c)
 differences_at left (context ∷ contexts) c =
-    option_and_then
-    (λ first. option_and_then (λ rest. Some (first.0 ∷ rest.0, rest.1)) (differences_at (left - 1) contexts first.1))
-    (sample_at left context c)
+    option_and_then (λ first. in_front first.0 (differences_at (left - 1) contexts first.1)) (sample_at left context c)
