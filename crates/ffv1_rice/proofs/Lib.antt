@@ -6,3 +6,5 @@ pub mod DifferenceLemmas
 pub mod PutLemmas
 pub mod RunLemmas
 pub mod LineLemmas
+pub mod FitLemmas
+pub mod WriteLemmas

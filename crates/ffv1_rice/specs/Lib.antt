@@ -1,6 +1,7 @@
 pub mod Bits
 pub mod Code
 pub mod Lines
+pub mod Pending
 pub mod Place
 pub mod Runs
 pub mod State

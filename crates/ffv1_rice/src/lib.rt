@@ -4,11 +4,13 @@
 #![tactic(auto)]
 
 mod code;
+mod lines;
 mod reader;
 mod runs;
 mod state;
 mod writer;
 
+pub use lines::RunWriter;
 pub use reader::BitReader;
 pub use runs::{Mode, RunReader, Step};
 pub use state::{OutOfRange, VlcState};

@@ -111,7 +111,7 @@ impl RunReader {
 
 // How many bits tell where a run is broken.
 #[inline(always)]
-fn run_bits(index: u32) -> u32
+pub(crate) fn run_bits(index: u32) -> u32
     requires { index ≤ 40 }
     ensures bits { result ≡ run_bits index }
     ensures few { result ≤ 24 }
