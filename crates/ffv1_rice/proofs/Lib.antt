@@ -8,3 +8,5 @@ pub mod RunLemmas
 pub mod LineLemmas
 pub mod FitLemmas
 pub mod WriteLemmas
+pub mod Back
+pub mod LineBack

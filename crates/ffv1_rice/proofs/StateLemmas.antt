@@ -1,5 +1,5 @@
 -- The parameter of a state.
-use Rattle.std.proofs.Common.{◌≡◌, ℕ, zero, suc, ◌+◌, ◌-◌, ◌*◌, ◌/◌, ◌%◌, ◌^◌, ◌<◌, ◌≤◌, refl, sym, ap, ◌∙◌, subst, arith, inl, inr, Bool, true, false, leb}
+use Rattle.std.proofs.Common.{◌≡◌, ℕ, zero, suc, ◌+◌, ◌-◌, ◌*◌, ◌/◌, ◌%◌, ◌^◌, ◌<◌, ◌≤◌, refl, sym, ap, ◌∙◌, subst, arith, inl, inr, Bool, true, false, leb, below_more}
 use Rattle.std.specs.Int.Count.{count_leading_zeros, leading_of_zero}
 use Rattle.std.proofs.lemmas.Bool.{le-leb, lt-leb, cases_lt}
 use Rattle.std.proofs.lemmas.Nat.{leading_top, pow-add, shl_below}
@@ -77,3 +77,18 @@ shift-small s k is e =
       | inl short ↦ omega (arith, parameter-small s (k + 1) is (next_shift s k is.some few small e short))
       | inr enough ↦ parameter-small s k is (this_shift s k is.some few small e enough)
     ]
+
+least_from-is : (i more : ℕ) (s : State) → ((j : ℕ) → j < i → s.count * 2 ^ j < s.error_sum) → s.error_sum ≤ s.count * 2 ^ (i + more) → IsParameter s (least_from i more s)
+least_from-is i zero s below enough = record { enough = (let e : i + zero ≡ i = omega arith in subst (λ (n : ℕ). s.error_sum ≤ s.count * 2 ^ n) e enough); least = below }
+least_from-is i (suc more) s below enough =
+    elim (cases_lt (s.count * 2 ^ i) s.error_sum) [
+      | inl short ↦
+          let e : i + suc more ≡ i + 1 + more = omega arith in
+          rw (lt-leb s.error_sum (s.count * 2 ^ i) short)
+          (least_from-is (i + 1) more s (below_more (λ (j : ℕ). s.count * 2 ^ j < s.error_sum) i below short) (subst (λ (n : ℕ). s.error_sum ≤ s.count * 2 ^ n) e enough))
+      | inr there ↦ rw (le-leb s.error_sum (s.count * 2 ^ i) there) (record { enough = there; least = below })
+    ]
+
+pub parameter_is_least : (s : State) → IsState s → IsParameter s (parameter s)
+unfolding parameter
+parameter_is_least s is = least_from-is 0 8 s (λ j h. absurd (omega arith)) (eight_enough s is)

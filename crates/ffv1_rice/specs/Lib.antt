@@ -1,5 +1,6 @@
 pub mod Bits
 pub mod Code
+pub mod Law
 pub mod Lines
 pub mod Pending
 pub mod Place

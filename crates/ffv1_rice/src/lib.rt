@@ -4,14 +4,19 @@
 #![tactic(auto)]
 
 mod code;
+mod law;
 mod lines;
 mod reader;
 mod runs;
 mod state;
 mod writer;
 
+pub use law::{parameter_is_least, reads_differences, reads_lines};
 pub use lines::RunWriter;
 pub use reader::BitReader;
-pub use runs::{Mode, RunReader, Step};
+pub use runs::{Mode, RunReader, Step, raise};
 pub use state::{OutOfRange, VlcState};
 pub use writer::BitWriter;
+
+#[cfg(test)]
+mod tests;

@@ -23,7 +23,7 @@ pub(crate) struct Pending {
 /// The run index of a plane as its lines are written.
 #[derive(Clone, Copy, Drop)]
 pub struct RunWriter {
-    index: u32,
+    pub(crate) index: u32,
 }
 
 // Clauses see the run index.

@@ -1,7 +1,7 @@
 //! Runs of a line, read. RFC 9043 section 3.8.2.4.
-ghost use Rattle.std.specs.Prelude.{◌≡◌, ℕ, ◌+◌, ◌-◌, ◌^◌, ◌<◌, ◌≤◌, ◌==◌, nat_le, min, if◌then◌else◌};
+ghost use Rattle.std.specs.Prelude.{◌≡◌, ℕ, ◌+◌, ◌-◌, ◌^◌, ◌<◌, ◌≤◌, ◌==◌, nat_le, min, if◌then◌else◌, ◌≤ℤ◌, pos, negsuc};
 ghost use Rattle.ffv1_rice.specs.Bits.{Reading, number_at, skipped};
-ghost use Rattle.ffv1_rice.specs.Runs.{run_bits, whole_run, first_run, line_run, source, entered, whole, broken, refilled, at_sample, stepped, next_step, FitsLine};
+ghost use Rattle.ffv1_rice.specs.Runs.{run_bits, whole_run, first_run, line_run, source, entered, whole, broken, refilled, at_sample, stepped, next_step, raised, FitsLine};
 ghost use Rattle.ffv1_rice.specs.Place.{run_of, IsPlace};
 
 use crate::code::power;
@@ -106,6 +106,20 @@ impl RunReader {
         let taken = take_step(at, left);
         self.at = taken.at;
         taken.step
+    }
+}
+
+/// A difference that was read after a run: from 0 on it is raised by 1.
+#[inline]
+pub fn raise(difference: i32) -> i32
+    requires least { negsuc 127 ≤ℤ difference }
+    requires most { difference ≤ℤ pos 127 }
+    ensures { result ≡ raised difference }
+{
+    if difference < 0 {
+        difference
+    } else {
+        difference + 1
     }
 }
 

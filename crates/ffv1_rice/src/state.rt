@@ -19,10 +19,10 @@ pub struct OutOfRange;
 /// What a state keeps of the residuals before.
 #[derive(Clone, Copy)]
 pub(crate) struct Tally {
-    drift: i32,
-    error_sum: u32,
-    bias: i32,
-    count: u32,
+    pub(crate) drift: i32,
+    pub(crate) error_sum: u32,
+    pub(crate) bias: i32,
+    pub(crate) count: u32,
 }
 
 // The count at which a state is halved.
@@ -31,7 +31,7 @@ const FULL_COUNT: u32 = 128;
 /// The state of a context.
 #[derive(Clone, Copy, Drop)]
 pub struct VlcState {
-    tally: Tally,
+    pub(crate) tally: Tally,
 }
 
 // Clauses see the four numbers.
