@@ -1,5 +1,0 @@
-pub mod Runs
-pub mod Parts
-pub mod Cuts
-pub mod Steps
-pub mod Sound

@@ -1,3 +1,5 @@
-pub mod Cells
+pub mod Parts
+pub mod Edits
+pub mod Patch
 pub mod Apply
 pub mod Pieces

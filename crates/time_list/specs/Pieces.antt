@@ -1,36 +1,17 @@
--- What a list of segments keeps, so that its cells can be named by 32-bit numbers.
-use Rattle.std.specs.Prelude.{◌≡◌, ℕ, ◌+◌, ◌-◌, ◌≤◌, ◌^◌, ◌==◌, nat_lt, nat_le, min, if◌then◌else◌, List, [], ◌∷◌, length, Option, Some, None}
-use Rattle.tl_model.specs.Segment.{IsSegment}
-use Rattle.tl_model.specs.declared.recipe.Side.{Side}
-use Rattle.tl_model.specs.declared.recipe.Side.TheVariants as side
+-- What a list of segments keeps, and the parts of segments that are cut.
+use Rattle.std.specs.Prelude.{◌≡◌, ℕ, ◌+◌, ◌-◌, ◌≤◌, ◌==◌, nat_lt, nat_le, min, if◌then◌else◌, List, [], ◌∷◌, length, Option, Some, None}
+use Rattle.tl_limits.specs.Limits.{max_frames, max_segments}
 use Rattle.tl_model.specs.declared.recipe.Mix.{Mix}
 use Rattle.tl_model.specs.declared.segment.Segment.{Segment}
-use Rattle.time_list.specs.Cells.{side_at, cells}
-
--- A side has so many frames with 32-bit numbers.
-abbrev pub Reaches : Side → ℕ → Type 0
-Reaches side.Black len = Unit {0}
-Reaches (side.Clip clip frame) len = frame + len ≤ 2 ^ 32
-
-abbrev pub MixReaches : Option Mix → Type 0
-MixReaches None = Unit {0}
-MixReaches (Some mix) = Reaches mix.from mix.steps
-
-pub record IsPiece (s : Segment) : Type 0 where
-  pub formed : IsSegment s
-  pub side : Reaches s.first s.len
-  pub mix : MixReaches s.mix
-
-abbrev pub ArePieces : List Segment → Type 0
-ArePieces [] = Unit {0}
-ArePieces (s ∷ ss) = IsPiece s × ArePieces ss
+use Rattle.tl_model.specs.Cells.{side_at, cells}
+use Rattle.tl_model.specs.Segment.{ArePieces}
 
 -- What a lane of segments keeps.
 pub record IsLane (items : List Segment) (frames : ℕ) : Type 0 where
   pub pieces : ArePieces items
   pub counted : frames ≡ length (cells items)
-  pub short : frames ≤ 1000000
-  pub few : length items ≤ 100000
+  pub short : frames ≤ max_frames
+  pub few : length items ≤ max_segments
 
 abbrev pub front_mix : Option Mix → ℕ → Option Mix
 front_mix None at = None

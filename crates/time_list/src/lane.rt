@@ -1,14 +1,19 @@
 //! A timeline under edits.
 
-ghost use Rattle.std.specs.Prelude.{◌≡◌, ℕ, ◌+◌, ◌<◌, ◌≤◌, List, [], length, slice_get, Some, Ok};
+ghost use Rattle.std.specs.Prelude.{◌≡◌, ℕ, ◌<◌, List, [], length, slice_get, Some, Ok, IfOk};
+ghost use Rattle.tl_model.specs.Cells.{Cell, segment_count, recipes, is_among};
+ghost use Rattle.tl_model.specs.Cells as model;
 ghost use Rattle.tl_model.specs.Edit.{IsEdit};
-ghost use Rattle.time_list.specs.Cells.{Cell, segment_count, recipes, is_among};
-ghost use Rattle.time_list.specs.Apply.{apply, Applies, IsSound};
+ghost use Rattle.tl_model.specs.Segment.{ArePieces};
+ghost use Rattle.tl_model.specs.Sound.{IsSound};
+ghost use Rattle.time_list.specs.Apply.{apply, Applies};
+ghost use Rattle.time_list.specs.Patch.{IsPatchOf, Reverts};
 
-use std::alloc::Global;
+use crate::patch::Patch;
+use std::alloc::{AllocError, Global};
 use std::marker::Brand;
 use std::sync::ledger::{Blank, Ledger};
-use tl_model::{Edit, EditRefusal, Media, Recipe, Steps};
+use tl_model::{Edit, EditRefusal, Media, Recipe, Segments, Steps};
 
 /// Why an edit wasn't made. The timeline is then as before.
 #[derive(Clone, Copy, Debug, PartialEq, Eq)]
@@ -35,26 +40,41 @@ pub trait Lane: Drop {
     fn segments(&self) -> u32
         ensures { result ≡ segment_count (cells self.now) };
 
-    /// The recipe of frame `n`. It counts at least one step, and at most one a segment.
+    /// The recipe of frame `n`. What is looked at is counted in `steps`.
     fn recipe_at<K: Ledger>(&self, n: u32, steps: &mut Steps<K>) -> Recipe
         requires { n < length (cells self.now) }
-        ensures recipe { slice_get (recipes (cells self.now)) n ≡ Some result }
-        ensures counted { steps.old < steps.new }
-        ensures few { steps.new ≤ steps.old + segment_count (cells self.now) };
+        ensures { slice_get (recipes (cells self.now)) n ≡ Some result };
 
     /// Whether some frame has that recipe.
     fn uses(&self, recipe: Recipe) -> bool
         ensures { result ≡ is_among recipe (recipes (cells self.now)) };
 
-    /// Makes an edit. A refusal is the first in the order of `EditRefusal`.
-    fn apply<M: Media>(&mut self, alloc: Global, media: &M, edit: &Edit) -> Result<(), ApplyFault>
+    /// Makes an edit, and answers the patch that leads back. A refusal is the first in the order of `EditRefusal`.
+    fn apply<M: Media>(
+        &mut self,
+        alloc: Global,
+        media: &M,
+        edit: &Edit,
+    ) -> Result<Patch, ApplyFault>
         requires sound { IsSound (M.library media.now) (cells self.old) }
         requires formed { IsEdit edit.now }
         ensures { Applies (apply (M.library media.now) edit.now (cells self.old)) (cells self.old) (cells self.new) result };
+
+    /// Puts a patch's cells in their place, and answers the patch that leads back. Where memory runs out the patch comes
+    /// back, and the timeline is as before.
+    fn revert(&mut self, alloc: Global, patch: Patch) -> Result<Patch, (Patch, AllocError)>
+        requires { IsPatchOf patch (cells self.old) }
+        ensures { Reverts patch (cells self.old) (cells self.new) result };
+
+    /// The segments, as they are now.
+    fn snapshot(&self, alloc: Global) -> Result<Segments, AllocError>
+        ensures whole { IfOk result (λ segments. model.cells segments ≡ cells self.now) }
+        ensures pieces { IfOk result (λ segments. ArePieces segments) };
 }
 
 /// Tells, in a proof, that an accepted edit keeps a sound timeline sound. It does nothing.
 pub fn keeps_sound<M: Media>(media: &M, edit: &Edit)
+    requires { IsEdit edit.now }
     ensures { (line after : List Cell) → IsSound (M.library media.now) line → apply (M.library media.now) edit.now line ≡ Ok after → IsSound (M.library media.now) after }
 {
     let _ = media;

@@ -1,10 +1,8 @@
 //! Timelines. `Lane` is a timeline seen as a list of cells, one a frame; `ListLane` keeps it as a list of segments.
 #![tactic(auto)]
 
-mod cut;
 mod lane;
-mod list_lane;
-mod piece;
+mod patch;
 
 pub use lane::{ApplyFault, Lane, keeps_sound, recipe_in};
-pub use list_lane::ListLane;
+pub use patch::Patch;

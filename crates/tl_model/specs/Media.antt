@@ -1,7 +1,8 @@
 -- A library of clips as contracts see it, and what holds of every library.
-use Rattle.std.specs.Prelude.{◌≡◌, ℕ, ◌<◌, ◌≤◌, ◌^◌, Bool, IsTrue, List, length, Option, Some, None, Result, Ok, Err, IsOk}
+use Rattle.std.specs.Prelude.{◌≡◌, ℕ, ◌<◌, ◌≤◌, Bool, IsTrue, List, length, Option, Some, None, Result, Ok, Err, IsOk}
 use Rattle.std.specs.Arc.{arc_value}
 use Rattle.std.specs.Global.{Vec}
+use Rattle.tl_limits.specs.Limits.{max_packet_bytes}
 use Rattle.tl_model.specs.declared.fault.FrameFault.{FrameFault}
 use Rattle.tl_model.specs.declared.fault.RenderFault.{RenderFault}
 use Rattle.tl_model.specs.declared.recipe.Side.{Side}
@@ -76,7 +77,7 @@ outcome_of (picked.Fault fault) = Err fault
 
 -- The packet is answered, or that it is too long, exactly where it is.
 abbrev pub Encodes : Option (List ℕ) → Result (Vec ℕ) EncodeFault → Type 0
-Encodes (Some packet) (Ok bytes) = (bytes.items ≡ packet) × (length packet ≤ 2 ^ 40)
+Encodes (Some packet) (Ok bytes) = (bytes.items ≡ packet) × (length packet ≤ max_packet_bytes)
 Encodes None (Ok bytes) = ⊥
 Encodes None (Err encoding.SliceTooLong) = Unit {0}
 Encodes (Some packet) (Err encoding.SliceTooLong) = ⊥

@@ -15,7 +15,7 @@ pub enum FrameFault {
     Header { slice: u32 },
     /// A slice names a table that the record lacks.
     TableIndex { slice: u32 },
-    /// A cell of the slice grid is covered by no slice.
+    /// A cell of the slice grid is not covered by exactly one slice.
     Cover { cell: u32 },
     /// A coded number is too long.
     Symbol { slice: u32 },

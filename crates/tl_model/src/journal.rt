@@ -3,14 +3,20 @@
 ghost use Rattle.std.specs.Prelude.{◌≡◌, IfOk};
 
 use crate::edit::Edit;
+use crate::fault::Ending;
+use crate::name::Name;
 use std::alloc::{AllocError, Global};
 use std::marker::Model;
 
-/// What a call did. Frames are counted from 0, jobs from 1.
-#[derive(Debug, Drop, PartialEq, Eq)]
+/// What a call did. Frames are counted from 0, jobs and exports from 1.
+#[derive(Debug, Drop)]
 pub enum Act {
     /// An edit, made or refused.
     Edit(Edit),
+    /// The last edit was undone, or there was none.
+    Undo,
+    /// The last undone edit was made again, or there was none.
+    Redo,
     /// `len` frames from `first` on were wanted.
     Want { first: u32, len: u32 },
     /// The wanted ones of `len` frames from `first` on were cancelled.
@@ -23,6 +29,18 @@ pub enum Act {
     Release { job: u64 },
     /// Frame `n` was played.
     Play { n: u32 },
+    /// Frame `n` was shown.
+    Show { n: u32 },
+    /// An export of the timeline to a file of that name was asked for.
+    Ask { name: Name },
+    /// The lowest export that nobody has was taken.
+    Take,
+    /// A taken export was ended.
+    End { export: u64, ending: Ending },
+    /// A number of turns of work was told.
+    Mark { turns: u32 },
+    /// A call was passed over.
+    Skip,
     /// The session was stopped.
     Stop,
 }
@@ -37,6 +55,8 @@ impl Act {
                 let edit = edit.copy(alloc)?;
                 Ok(Act::Edit(edit))
             }
+            Act::Undo => Ok(Act::Undo),
+            Act::Redo => Ok(Act::Redo),
             Act::Want { first, len } => Ok(Act::Want {
                 first: *first,
                 len: *len,
@@ -49,13 +69,25 @@ impl Act {
             Act::File { job } => Ok(Act::File { job: *job }),
             Act::Release { job } => Ok(Act::Release { job: *job }),
             Act::Play { n } => Ok(Act::Play { n: *n }),
+            Act::Show { n } => Ok(Act::Show { n: *n }),
+            Act::Ask { name } => {
+                let name = name.copy(alloc)?;
+                Ok(Act::Ask { name })
+            }
+            Act::Take => Ok(Act::Take),
+            Act::End { export, ending } => Ok(Act::End {
+                export: *export,
+                ending: *ending,
+            }),
+            Act::Mark { turns } => Ok(Act::Mark { turns: *turns }),
+            Act::Skip => Ok(Act::Skip),
             Act::Stop => Ok(Act::Stop),
         }
     }
 }
 
 /// One call: the number of its caller, and what it did.
-#[derive(Debug, Drop, PartialEq, Eq)]
+#[derive(Debug, Drop)]
 pub struct Entry {
     pub pass: u32,
     pub act: Act,

@@ -2,9 +2,11 @@
 //! rendered value whose type keeps that it is the render of its recipe.
 #![tactic(auto)]
 
+mod clips;
 mod edit;
 mod fault;
 mod journal;
+mod law;
 mod media;
 mod name;
 mod recipe;
@@ -12,9 +14,11 @@ mod rendered;
 mod segment;
 mod steps;
 
+pub use clips::Clips;
 pub use edit::{Edit, EditRefusal, EditReply};
 pub use fault::{Ending, FrameFault, RenderFault};
 pub use journal::{Act, Entry, Journal};
+pub use law::sound_frames_render;
 pub use media::{EncodeFault, Media, Picked};
 pub use name::Name;
 pub use recipe::{Mix, Recipe, Side};

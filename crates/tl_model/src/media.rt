@@ -1,6 +1,7 @@
 //! The library of clips, as the core of the editor knows it.
 
-ghost use Rattle.std.specs.Prelude.{◌≡◌, ℕ, ◌<◌, ◌≤◌, ◌^◌, IsTrue, IfOk, length};
+ghost use Rattle.std.specs.Prelude.{◌≡◌, ℕ, ◌<◌, ◌≤◌, IsTrue, IfOk, length};
+ghost use Rattle.tl_limits.specs.Limits.{IsSide, IsRecordLength, max_packet_bytes};
 ghost use Rattle.tl_model.specs.Media.{Library, IsLibrary, CanRender, Encodes, outcome_of};
 
 use crate::fault::RenderFault;
@@ -26,7 +27,7 @@ pub enum Picked<F> {
 
 /// Clips, a shape that pictures are shown in, and a way to code them. Clips and frames are counted from 0.
 pub trait Media {
-    type Frame: Drop + Send + Sync;
+    type Frame: Drop;
 
     /// The library, as contracts see it.
     ghost library: { Self → Library Self.Frame };
@@ -59,20 +60,19 @@ pub trait Media {
         requires clip { clip < (library self.now).clips }
         requires frame { frame < (library self.now).frames clip }
         ensures bytes { result.now ≡ (library self.now).packet clip frame }
-        ensures bound { length result.now ≤ 2 ^ 40 };
+        ensures bound { length result.now ≤ max_packet_bytes };
 
     /// The record bytes of the output.
     fn private(&self) -> &[u8]
         ensures bytes { result.now ≡ (library self.now).record_bytes }
-        ensures some { 1 ≤ length result.now }
-        ensures bound { length result.now ≤ 65536 };
+        ensures length { IsRecordLength (length result.now) };
 
     /// Width and height of the output, in samples.
     fn size(&self) -> (u32, u32)
         ensures width { result.0 ≡ (library self.now).width }
         ensures height { result.1 ≡ (library self.now).height }
-        ensures wide { (1 ≤ result.0) × (result.0 ≤ 8192) }
-        ensures high { (1 ≤ result.1) × (result.1 ≤ 8192) };
+        ensures wide { IsSide result.0 }
+        ensures high { IsSide result.1 };
 
     /// The picture of a recipe, or the fault of one of its sides.
     fn render(&self, alloc: Global, recipe: Recipe) -> Result<Picked<Self::Frame>, AllocError>

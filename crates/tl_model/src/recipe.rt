@@ -1,7 +1,10 @@
 //! What a frame of a timeline is made of.
 
-ghost use Rattle.std.specs.Prelude.{◌≡◌};
+ghost use Rattle.std.specs.Prelude.{◌≡◌, ◌+◌};
+ghost use Rattle.tl_model.specs.Cells.{side_at};
+ghost use Rattle.tl_model.specs.Media as media;
 ghost use Rattle.tl_model.specs.Recipe.{same_side, same_recipe};
+ghost use Rattle.tl_model.specs.Segment.{Reaches};
 
 /// What one side of a frame shows.
 #[derive(Clone, Copy, Debug, PartialEq, Eq)]
@@ -17,6 +20,30 @@ impl Side {
         ensures { result ≡ same_side self other }
     {
         self == other
+    }
+
+    /// What follows this side after `by` frames.
+    pub fn moved(self, by: u32) -> Side
+        requires { Reaches self (by + 1) }
+        ensures { result ≡ side_at self by }
+    {
+        match self {
+            Side::Black => Side::Black,
+            Side::Clip { clip, frame } => Side::Clip {
+                clip,
+                frame: frame + by,
+            },
+        }
+    }
+
+    /// The recipe of a frame that shows this side as it is.
+    pub fn alone(self) -> Recipe
+        ensures { result ≡ media.alone self }
+    {
+        match self {
+            Side::Black => Recipe::Black,
+            Side::Clip { clip, frame } => Recipe::Source { clip, frame },
+        }
     }
 }
 

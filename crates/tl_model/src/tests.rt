@@ -3,7 +3,10 @@ use std::test::*;
 
 fn crosses_threads<T: Send + Sync>(_value: &T) {}
 
-fn rendered_crosses<M: Media>(rendered: &Rendered<M>) {
+fn rendered_crosses<M: Media>(rendered: &Rendered<M>)
+where
+    M::Frame: Send + Sync,
+{
     crosses_threads(rendered)
 }
 
