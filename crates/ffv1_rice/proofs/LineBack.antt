@@ -12,12 +12,12 @@ use Rattle.ffv1_rice.specs.declared.runs.Mode.{Mode}
 use Rattle.ffv1_rice.specs.declared.runs.Mode.TheVariants.{Outside, Running, Ending}
 use Rattle.ffv1_rice.specs.Bits.{Reading, number_at, skipped}
 use Rattle.ffv1_rice.specs.State.{State, fresh, difference_at, difference_bits, state_after}
-use Rattle.ffv1_rice.specs.Runs.{Run, Source, Coding, line_run, source, run_bits, whole_run, at_sample, whole, broken, after_run, next_step, difference_by, raised, sample_at, in_front, differences_at}
+use Rattle.ffv1_rice.specs.Runs.{Run, Source, Coding, line_run, source, coding, run_bits, whole_run, at_sample, whole, broken, after_run, next_step, difference_by, raised, sample_at, in_front, differences_at}
 use Rattle.ffv1_rice.specs.Lines.{Fitting, Written, one_more, fitting, lowered, difference_put, broken_put, end_put, pending_at, put_by, sample_put, ended, line_put}
 use Rattle.ffv1_rice.specs.Law.{IsDifference, ReadsLines, reading_behind}
 use Rattle.ffv1_rice.proofs.BitLemmas.{number_at-bits_of, length-bits_of}
 use Rattle.ffv1_rice.proofs.FitLemmas.{whole_run-some, fitting-more, fitting-none, none_fits}
-use Rattle.ffv1_rice.proofs.LineLemmas.{coding, behind, InRun, coding_with, run_with, differences_at-append, differences_at-cons, zeros-run, zeros-arrived}
+use Rattle.ffv1_rice.proofs.LineLemmas.{behind, InRun, coding_with, run_with, differences_at-append, differences_at-cons, zeros-run, zeros-arrived}
 use Rattle.ffv1_rice.proofs.Back.{reads_differences}
 
 -- ---- readings: so many bits were taken, counted up to a most
@@ -51,7 +51,7 @@ whole-samples left i k taken x xs more states e le =
     let next = cond (leb (suc k) left) (i + 1) i in
     let s = source (run_with Running 0 i) (reading_of (1 ∷ more) taken) in
     let told = told-whole left i taken (x == 0) more
-        ∙ ap (λ n. source (run_with Running n (cond (leb n left) (i + 1) i)) (reading_of more (taken + 1))) e in
+    ∙ ap (λ n. source (run_with Running n (cond (leb n left) (i + 1) i)) (reading_of more (taken + 1))) e in
     let c : suc k - suc (length xs) ≡ k - length xs = omega arith in
     zeros-arrived Running left x xs k next s states (reading_of more (taken + 1)) tt told
     ∙ zeros-run Running left (x ∷ xs) (suc k) next states (reading_of more (taken + 1)) tt (omega arith)
@@ -66,8 +66,8 @@ whole-run left i taken (x ∷ xs) tail more states e le =
     let fits : leb (suc k) left ≡ true = le-leb (suc k) left (omega (arith, e)) in
     let none : k - k ≡ 0 = omega arith in
     let first = whole-samples left i k taken x xs more states (sym e) (omega arith)
-        ∙ ap (λ n. Some (replicate (suc k) (pos 0), coding_with Running n (cond (leb (suc k) left) (i + 1) i) states (reading_of more (taken + 1)))) none
-        ∙ ap (λ b. Some (replicate (suc k) (pos 0), coding_with Running 0 (cond b (i + 1) i) states (reading_of more (taken + 1)))) fits in
+    ∙ ap (λ n. Some (replicate (suc k) (pos 0), coding_with Running n (cond (leb (suc k) left) (i + 1) i) states (reading_of more (taken + 1)))) none
+    ∙ ap (λ b. Some (replicate (suc k) (pos 0), coding_with Running 0 (cond b (i + 1) i) states (reading_of more (taken + 1)))) fits in
     differences_at-append left (x ∷ xs) tail (coding_with Running 0 i states (reading_of (1 ∷ more) taken)) (coding_with Running 0 (i + 1) states (reading_of more (taken + 1))) (replicate (suc k) (pos 0)) first
     ∙ ap (λ n. behind (replicate n (pos 0)) (differences_at (left - n) tail (coding_with Running 0 (i + 1) states (reading_of more (taken + 1))))) e
 
@@ -84,18 +84,21 @@ abbrev pub AreRead : ℕ → ℕ → ℕ → ℕ → List ℕ → List ℕ → L
 AreRead left n i taken zs tail more states f =
     (rest : List ℕ) × (length rest ≡ f.rest) × (f.rest ≤ n)
     × (differences_at left (zs ++ tail) (coding_with Running 0 i states (reading_of (f.bits ++ more) taken))
-      ≡ behind (replicate (n - f.rest) (pos 0)) (differences_at (left - (n - f.rest)) (rest ++ tail) (coding_with Running 0 f.index states (reading_of more (taken + length f.bits)))))
+    ≡ behind (replicate (n - f.rest) (pos 0)) (differences_at (left - (n - f.rest)) (rest ++ tail) (coding_with Running 0 f.index states (reading_of more (taken + length f.bits)))))
 
 no-runs : (left n i taken : ℕ) (zs tail more : List ℕ) (states : List State) → length zs ≡ n → AreRead left n i taken zs tail more states (none_fits n i)
 no-runs left n i taken zs tail more states e =
     let none : 0 ≡ n - n = omega arith in
     let same : taken ≡ taken + 0 = omega arith in
-    let all : left ≡ left - 0 = omega arith in
-    (zs, e, omega arith,
+    let all : left ≡ left - 0 = omega arith in (
+      zs,
+      e,
+      omega arith,
       sym (behind-nil (differences_at left (zs ++ tail) (coding_with Running 0 i states (reading_of more taken))))
-      ∙ ap (λ t. behind [] (differences_at left (zs ++ tail) (coding_with Running 0 i states (reading_of more t)))) same
-      ∙ ap (λ l. behind [] (differences_at l (zs ++ tail) (coding_with Running 0 i states (reading_of more (taken + 0))))) all
-      ∙ ap (λ k. behind (replicate k (pos 0)) (differences_at (left - k) (zs ++ tail) (coding_with Running 0 i states (reading_of more (taken + 0))))) none)
+          ∙ ap (λ t. behind [] (differences_at left (zs ++ tail) (coding_with Running 0 i states (reading_of more t)))) same
+          ∙ ap (λ l. behind [] (differences_at l (zs ++ tail) (coding_with Running 0 i states (reading_of more (taken + 0))))) all
+          ∙ ap (λ k. behind (replicate k (pos 0)) (differences_at (left - k) (zs ++ tail) (coding_with Running 0 i states (reading_of more (taken + 0))))) none,
+    )
 
 one-run : (left n i taken : ℕ) (zs tail more : List ℕ) (states : List State) (f : Fitting) → length zs ≡ n → n ≤ left → whole_run i ≤ n →
     AreRead (left - whole_run i) (n - whole_run i) (i + 1) (taken + 1) (drop (whole_run i) zs) tail more states f → AreRead left n i taken zs tail more states (one_more f)
@@ -106,16 +109,19 @@ one-run left n i taken zs tail more states f e within fits (rest, count, below, 
     let after : List ℕ → ℕ → Coding = λ b t. coding_with Running 0 f.index states (reading_of b t) in
     let samples : l + (n - l - f.rest) ≡ n - f.rest = omega (arith, below) in
     let place : left - l - (n - l - f.rest) ≡ left - (n - f.rest) = omega (arith, below) in
-    let taken_is : taken + 1 + length f.bits ≡ taken + suc (length f.bits) = omega arith in
-    (rest, count, omega (arith, below),
+    let taken_is : taken + 1 + length f.bits ≡ taken + suc (length f.bits) = omega arith in (
+      rest,
+      count,
+      omega (arith, below),
       ap (λ (ys : List ℕ). differences_at left ys (coding_with Running 0 i states (reading_of (1 ∷ (f.bits ++ more)) taken))) parts
-      ∙ whole-run left i taken (take l zs) (drop l zs ++ tail) (f.bits ++ more) states front (omega arith)
-      ∙ ap (behind (replicate l (pos 0))) read
-      ∙ behind-behind (replicate l (pos 0)) (replicate (n - l - f.rest) (pos 0)) (differences_at (left - l - (n - l - f.rest)) (rest ++ tail) (after more (taken + 1 + length f.bits)))
-      ∙ ap (λ (ds : List ℤ). behind ds (differences_at (left - l - (n - l - f.rest)) (rest ++ tail) (after more (taken + 1 + length f.bits)))) (replicate-append-replicate l (n - l - f.rest) (pos 0))
-      ∙ ap (λ k. behind (replicate k (pos 0)) (differences_at (left - l - (n - l - f.rest)) (rest ++ tail) (after more (taken + 1 + length f.bits)))) samples
-      ∙ ap (λ k. behind (replicate (n - f.rest) (pos 0)) (differences_at k (rest ++ tail) (after more (taken + 1 + length f.bits)))) place
-      ∙ ap (λ t. behind (replicate (n - f.rest) (pos 0)) (differences_at (left - (n - f.rest)) (rest ++ tail) (after more t))) taken_is)
+          ∙ whole-run left i taken (take l zs) (drop l zs ++ tail) (f.bits ++ more) states front (omega arith)
+          ∙ ap (behind (replicate l (pos 0))) read
+          ∙ behind-behind (replicate l (pos 0)) (replicate (n - l - f.rest) (pos 0)) (differences_at (left - l - (n - l - f.rest)) (rest ++ tail) (after more (taken + 1 + length f.bits)))
+          ∙ ap (λ (ds : List ℤ). behind ds (differences_at (left - l - (n - l - f.rest)) (rest ++ tail) (after more (taken + 1 + length f.bits)))) (replicate-append-replicate l (n - l - f.rest) (pos 0))
+          ∙ ap (λ k. behind (replicate k (pos 0)) (differences_at (left - l - (n - l - f.rest)) (rest ++ tail) (after more (taken + 1 + length f.bits)))) samples
+          ∙ ap (λ k. behind (replicate (n - f.rest) (pos 0)) (differences_at k (rest ++ tail) (after more (taken + 1 + length f.bits)))) place
+          ∙ ap (λ t. behind (replicate (n - f.rest) (pos 0)) (differences_at (left - (n - f.rest)) (rest ++ tail) (after more t))) taken_is,
+    )
 
 whole-runs : (m left n i taken : ℕ) (zs tail more : List ℕ) (states : List State) → n ≤ m → length zs ≡ n → n ≤ left →
     AreRead left n i taken zs tail more states (fitting n i) × ((fitting n i).rest < whole_run (fitting n i).index)
@@ -129,7 +135,7 @@ whole-runs (suc m) left n i taken zs tail more states le e within =
           let count : length (drop (whole_run i) zs) ≡ n - whole_run i = omega (arith, length-drop (whole_run i) zs, e) in
           let inner = whole-runs m (left - whole_run i) (n - whole_run i) (i + 1) (taken + 1) (drop (whole_run i) zs) tail more states (omega (arith, whole_run-some i)) count (omega arith) in
           subst (λ (f : Fitting). AreRead left n i taken zs tail more states f × (f.rest < whole_run f.index)) (sym (fitting-more n i fits))
-            (one-run left n i taken zs tail more states (fitting (n - whole_run i) (i + 1)) e within fits inner.0, inner.1)
+          (one-run left n i taken zs tail more states (fitting (n - whole_run i) (i + 1)) e within fits inner.0, inner.1)
     ]
 
 -- ---- a run that is broken
@@ -181,8 +187,8 @@ broken-read left i n taken x (y ∷ ys) tail more states d mid below e read =
     let told = told-broken left i n taken (y == 0) more below ∙ ap (λ m. source (run_with Ending m (i - 1)) r) (sym e) in
     let none : suc k - suc k ≡ 0 = omega arith in
     let zeros_are = zeros-arrived Ending left y ys k (i - 1) s states r tt told
-        ∙ zeros-run Ending left (y ∷ ys) (suc k) (i - 1) states r tt (omega arith)
-        ∙ ap (λ m. Some (replicate (suc k) (pos 0), coding_with Ending m (i - 1) states r)) none in
+    ∙ zeros-run Ending left (y ∷ ys) (suc k) (i - 1) states r tt (omega arith)
+    ∙ ap (λ m. Some (replicate (suc k) (pos 0), coding_with Ending m (i - 1) states r)) none in
     differences_at-append left (y ∷ ys) (x ∷ tail) c (coding_with Ending 0 (i - 1) states r) (replicate (suc k) (pos 0)) zeros_are
     ∙ ap (behind (replicate (suc k) (pos 0))) (differences_at-cons (left - suc k) x tail (coding_with Ending 0 (i - 1) states r) mid d (after-ending (left - suc k) x (i - 1) states r ∙ read))
     ∙ ap (λ m. behind (replicate m (pos 0)) (behind (d ∷ []) (differences_at (left - m - 1) tail mid))) e
@@ -234,7 +240,7 @@ difference-back of x d run states rest taken h =
     let s = slice_index_or states x fresh in
     let n = length (difference_bits s d) in
     rw (reads_differences s d rest (min taken (2 ^ 63)) h)
-      (ap (λ t. Some (of d, record { run = run; states = slice_set states x (state_after s d); reading = record { bits = rest; taken = t } })) (min-again (2 ^ 63) taken n))
+    (ap (λ t. Some (of d, record { run = run; states = slice_set states x (state_after s d); reading = record { bits = rest; taken = t } })) (min-again (2 ^ 63) taken n))
 
 pub lowered-range : (d : ℤ) → IsDifference d → IsDifference (lowered d)
 lowered-range d h =
@@ -262,7 +268,7 @@ abbrev pub IsBack : ℕ → List ℕ → Mode → List ℤ → Written → Writt
 IsBack left contexts mode differences start end =
     (bits : List ℕ) × (run : Run) × (end.bits ≡ start.bits ++ bits) × (run.index ≡ end.index)
     × ((rest : List ℕ) (taken : ℕ) → differences_at left contexts (coding_with mode 0 start.index start.states (reading_of (bits ++ rest) taken))
-      ≡ Some (differences, record { run = run; states = end.states; reading = reading_of rest (taken + length bits) }))
+    ≡ Some (differences, record { run = run; states = end.states; reading = reading_of rest (taken + length bits) }))
 
 abbrev pub begun : Option ℕ → ℕ → List State → List ℕ → Written
 begun pending i states bits = record { pending = pending; index = i; states = states; bits = bits }
@@ -326,9 +332,9 @@ zero-step c cs ds more n zs i states bits e =
     let list : zs' ++ cs ≡ zs ++ (c ∷ cs) = append_assoc zs (c ∷ []) cs in
     let start = begun (Some (n + 1)) i states bits in
     subst (λ (l : ℕ). IsBack l (zs ++ (c ∷ cs)) Running (replicate n (pos 0) ++ (pos 0 ∷ ds)) start (line_put cs ds start)) place
-      (subst (λ (xs : List ℕ). IsBack (n + 1 + length cs) xs Running (replicate n (pos 0) ++ (pos 0 ∷ ds)) start (line_put cs ds start)) list
-        (subst (λ (l : List ℤ). IsBack (n + 1 + length cs) (zs' ++ cs) Running l start (line_put cs ds start)) (some-more n ds)
-          (more (n + 1) zs' i states bits count)))
+    (subst (λ (xs : List ℕ). IsBack (n + 1 + length cs) xs Running (replicate n (pos 0) ++ (pos 0 ∷ ds)) start (line_put cs ds start)) list
+    (subst (λ (l : List ℤ). IsBack (n + 1 + length cs) (zs' ++ cs) Running l start (line_put cs ds start)) (some-more n ds)
+    (more (n + 1) zs' i states bits count)))
 
 -- what a run that breaks and the difference after it write
 abbrev pub break_bits : ℕ → ℕ → List ℕ
@@ -357,7 +363,7 @@ break-read c n i taken zs cs d ds states back rest end e some small next =
     let t = taken + length f.bits in
     let mid : Coding = coding_with Outside 0 (f.index - 1) states' (reading_of (back ++ rest) (t + suc (run_bits f.index) + length put)) in
     let read = difference-back raised c l (run_with Outside 0 (f.index - 1)) states (back ++ rest) (t + suc (run_bits f.index)) (lowered-range d small)
-        ∙ ap (λ z. Some (z, mid)) (raised-lowered d some) in
+    ∙ ap (λ z. Some (z, mid)) (raised-lowered d some) in
     let place : left - (n - r) - r - 1 ≡ length cs = omega (arith, whole.0.2) in
     let broke = broken-read (left - (n - r)) f.index r t c zs' cs (put ++ (back ++ rest)) states d mid whole.1 whole.0.1 read in
     ap (λ (b : List ℕ). differences_at left (zs ++ (c ∷ cs)) (coding_with Running 0 i states (reading_of b taken))) all
@@ -371,7 +377,7 @@ break-read c n i taken zs cs d ds states back rest end e some small next =
 break-step : (c : ℕ) (cs : List ℕ) (d : ℤ) (ds : List ℤ) → d ≢ pos 0 → IsDifference d → OutsideBack cs ds →
     (n : ℕ) (zs : List ℕ) (i : ℕ) (states : List State) (bits : List ℕ) → length zs ≡ n →
     IsBack (n + suc (length cs)) (zs ++ (c ∷ cs)) Running (replicate n (pos 0) ++ (d ∷ ds)) (begun (Some n) i states bits)
-      (line_put cs ds (difference_put c (lowered d) (broken_put n (begun (Some n) i states bits))))
+    (line_put cs ds (difference_put c (lowered d) (broken_put n (begun (Some n) i states bits))))
 unfolding difference_put broken_put
 break-step c cs d ds some small more n zs i states bits e =
     let s = slice_index_or states c fresh in
@@ -382,11 +388,15 @@ break-step c cs d ds some small more n zs i states bits e =
     let back = inner.0 in
     let written : ((bits ++ break_bits n i) ++ put) ++ back ≡ bits ++ ((break_bits n i ++ put) ++ back) = simp append_assoc in
     let count : (taken : ℕ) → taken + length f.bits + suc (run_bits f.index) + length put + length back ≡ taken + length ((break_bits n i ++ put) ++ back) =
-        λ taken. omega (arith, length-append (break_bits n i ++ put) back, length-append (break_bits n i) put, length-append f.bits (0 ∷ bits_of (run_bits f.index) f.rest), length-bits_of (run_bits f.index) f.rest) in
-    ((break_bits n i ++ put) ++ back, inner.1, inner.2 ∙ written, inner.3,
+    λ taken. omega (arith, length-append (break_bits n i ++ put) back, length-append (break_bits n i) put, length-append f.bits (0 ∷ bits_of (run_bits f.index) f.rest), length-bits_of (run_bits f.index) f.rest) in (
+      (break_bits n i ++ put) ++ back,
+      inner.1,
+      inner.2 ∙ written,
+      inner.3,
       λ rest taken.
-        break-read c n i taken zs cs d ds states back rest _ e some small (inner.4 rest (taken + length f.bits + suc (run_bits f.index) + length put))
-        ∙ ap (λ t. Some (replicate n (pos 0) ++ (d ∷ ds), record { run = inner.1; states = (line_put cs ds (begun None (f.index - 1) states' ((bits ++ break_bits n i) ++ put))).states; reading = reading_of rest t })) (count taken))
+          break-read c n i taken zs cs d ds states back rest _ e some small (inner.4 rest (taken + length f.bits + suc (run_bits f.index) + length put))
+          ∙ ap (λ t. Some (replicate n (pos 0) ++ (d ∷ ds), record { run = inner.1; states = (line_put cs ds (begun None (f.index - 1) states' ((bits ++ break_bits n i) ++ put))).states; reading = reading_of rest t })) (count taken),
+    )
 
 pub running-step : (c : ℕ) (cs : List ℕ) (d : ℤ) (ds : List ℤ) → IsDifference d → OutsideBack cs ds → RunningBack cs ds → RunningBack (c ∷ cs) (d ∷ ds)
 unfolding sample_put
@@ -411,13 +421,17 @@ begin-step : (cs : List ℕ) (d : ℤ) (ds : List ℤ) → RunningBack (0 ∷ cs
 begin-step cs d ds running i states bits =
     let inner = running 0 [] i states bits refl in
     let end = same-start cs d ds i states bits in
-    let place : suc (length cs) ≡ 0 + suc (length cs) = omega arith in
-    (inner.0, inner.1, ap (λ (w : Written). w.bits) (sym end) ∙ inner.2, inner.3 ∙ ap (λ (w : Written). w.index) end,
+    let place : suc (length cs) ≡ 0 + suc (length cs) = omega arith in (
+      inner.0,
+      inner.1,
+      ap (λ (w : Written). w.bits) (sym end) ∙ inner.2,
+      inner.3 ∙ ap (λ (w : Written). w.index) end,
       λ rest taken.
-        same-read (suc (length cs)) cs i states (reading_of (inner.0 ++ rest) taken)
-        ∙ ap (λ l. differences_at l (0 ∷ cs) (coding_with Running 0 i states (reading_of (inner.0 ++ rest) taken))) place
-        ∙ inner.4 rest taken
-        ∙ ap (λ (w : Written). Some (d ∷ ds, record { run = inner.1; states = w.states; reading = reading_of rest (taken + length inner.0) })) end)
+          same-read (suc (length cs)) cs i states (reading_of (inner.0 ++ rest) taken)
+          ∙ ap (λ l. differences_at l (0 ∷ cs) (coding_with Running 0 i states (reading_of (inner.0 ++ rest) taken))) place
+          ∙ inner.4 rest taken
+          ∙ ap (λ (w : Written). Some (d ∷ ds, record { run = inner.1; states = w.states; reading = reading_of rest (taken + length inner.0) })) end,
+    )
 
 -- a difference outside of a run
 outside-sample : (left k i : ℕ) (states : List State) (r : Reading) →
@@ -445,18 +459,22 @@ plain-step k cs d ds small more i states bits =
     let inner = more i states' (bits ++ put) in
     let back = inner.0 in
     let end : line_put cs ds (begun None i states' (bits ++ put)) ≡ line_put (c ∷ cs) (d ∷ ds) (begun None i states bits) =
-        ap (λ (w : Written). line_put cs ds w) (sym (outside-put k d i states bits ∙ plain-put c d i states bits)) in
-    let count : (taken : ℕ) → taken + length put + length back ≡ taken + length (put ++ back) = λ taken. omega (arith, length-append put back) in
-    (put ++ back, inner.1, ap (λ (w : Written). w.bits) (sym end) ∙ inner.2 ∙ append_assoc bits put back, inner.3 ∙ ap (λ (w : Written). w.index) end,
+    ap (λ (w : Written). line_put cs ds w) (sym (outside-put k d i states bits ∙ plain-put c d i states bits)) in
+    let count : (taken : ℕ) → taken + length put + length back ≡ taken + length (put ++ back) = λ taken. omega (arith, length-append put back) in (
+      put ++ back,
+      inner.1,
+      ap (λ (w : Written). w.bits) (sym end) ∙ inner.2 ∙ append_assoc bits put back,
+      inner.3 ∙ ap (λ (w : Written). w.index) end,
       λ rest taken.
-        (let mid : Coding = coding_with Outside 0 i states' (reading_of (back ++ rest) (taken + length put)) in
-        ap (λ (b : List ℕ). differences_at (suc (length cs)) (c ∷ cs) (coding_with Outside 0 i states (reading_of b taken))) (append_assoc put back rest)
-        ∙ differences_at-cons (suc (length cs)) c cs (coding_with Outside 0 i states (reading_of (put ++ (back ++ rest)) taken)) mid d
-            (outside-sample (suc (length cs)) k i states (reading_of (put ++ (back ++ rest)) taken) ∙ difference-back (λ z. z) c d (run_with Outside 0 i) states (back ++ rest) taken small)
-        ∙ ap (λ l. behind (d ∷ []) (differences_at l cs mid)) (let e : suc (length cs) - 1 ≡ length cs = omega arith in e)
-        ∙ ap (behind (d ∷ [])) (inner.4 rest (taken + length put))
-        ∙ ap (λ t. Some (d ∷ ds, record { run = inner.1; states = (line_put cs ds (begun None i states' (bits ++ put))).states; reading = reading_of rest t })) (count taken)
-        ∙ ap (λ (w : Written). Some (d ∷ ds, record { run = inner.1; states = w.states; reading = reading_of rest (taken + length (put ++ back)) })) end))
+          (let mid : Coding = coding_with Outside 0 i states' (reading_of (back ++ rest) (taken + length put)) in
+          ap (λ (b : List ℕ). differences_at (suc (length cs)) (c ∷ cs) (coding_with Outside 0 i states (reading_of b taken))) (append_assoc put back rest)
+          ∙ differences_at-cons (suc (length cs)) c cs (coding_with Outside 0 i states (reading_of (put ++ (back ++ rest)) taken)) mid d
+          (outside-sample (suc (length cs)) k i states (reading_of (put ++ (back ++ rest)) taken) ∙ difference-back (λ z. z) c d (run_with Outside 0 i) states (back ++ rest) taken small)
+          ∙ ap (λ l. behind (d ∷ []) (differences_at l cs mid)) (let e : suc (length cs) - 1 ≡ length cs = omega arith in e)
+          ∙ ap (behind (d ∷ [])) (inner.4 rest (taken + length put))
+          ∙ ap (λ t. Some (d ∷ ds, record { run = inner.1; states = (line_put cs ds (begun None i states' (bits ++ put))).states; reading = reading_of rest t })) (count taken)
+          ∙ ap (λ (w : Written). Some (d ∷ ds, record { run = inner.1; states = w.states; reading = reading_of rest (taken + length (put ++ back)) })) end),
+    )
 
 outside-step : (c : ℕ) (cs : List ℕ) (d : ℤ) (ds : List ℤ) → IsDifference d → OutsideBack cs ds → RunningBack (c ∷ cs) (d ∷ ds) → OutsideBack (c ∷ cs) (d ∷ ds)
 outside-step zero cs d ds small outside running = begin-step cs d ds running
@@ -481,7 +499,7 @@ reads_lines contexts differences index states bits e all =
       written = back.2;
       index = back.3;
       read = λ rest taken small.
-        (let t : taken ≡ min taken (2 ^ 63) = omega (arith, small) in
-        ap (λ k. differences_at (length contexts) contexts (coding_with Outside 0 index states (record { bits = back.0 ++ rest; taken = k }))) t
-        ∙ back.4 rest taken)
+          (let t : taken ≡ min taken (2 ^ 63) = omega (arith, small) in
+          ap (λ k. differences_at (length contexts) contexts (coding_with Outside 0 index states (record { bits = back.0 ++ rest; taken = k }))) t
+          ∙ back.4 rest taken);
     }

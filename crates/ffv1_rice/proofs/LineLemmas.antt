@@ -7,11 +7,7 @@ use Rattle.ffv1_rice.specs.declared.runs.Step.{Step}
 use Rattle.ffv1_rice.specs.declared.runs.Step.TheVariants.{Zeros, Difference, AfterRun}
 use Rattle.ffv1_rice.specs.Bits.{Reading}
 use Rattle.ffv1_rice.specs.State.{State}
-use Rattle.ffv1_rice.specs.Runs.{Run, Source, Coding, source, at_sample, entered, refilled, zeros, after_run, stepped, next_step, difference_by, raised, sample_by, sample_at, in_front, differences_at}
-
--- a run, states and what is left, together
-abbrev pub coding : Source → List State → Coding
-coding s states = record { run = s.run; states = states; reading = s.reading }
+use Rattle.ffv1_rice.specs.Runs.{Run, Source, Coding, source, coding, at_sample, entered, refilled, zeros, after_run, stepped, next_step, difference_by, raised, sample_by, sample_at, in_front, differences_at}
 
 -- ---- one sample after another
 -- differences that were read, in front of others

@@ -120,6 +120,9 @@ pub record Coding : Type 0 where
   pub states : List State
   pub reading : Reading
 
+abbrev pub coding : Source → List State → Coding
+coding s states = record { run = s.run; states = states; reading = s.reading }
+
 -- a difference after a run isn't 0: from 0 on it is raised by 1
 abbrev pub raised : ℤ → ℤ
 raised d = if int_lt d (pos 0) then d else d +ℤ pos 1

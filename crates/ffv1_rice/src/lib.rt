@@ -11,7 +11,7 @@ mod runs;
 mod state;
 mod writer;
 
-pub use law::{parameter_is_least, reads_differences, reads_lines};
+pub use law::{parameter_is_least, reads_differences, reads_lines, steps_are_samples};
 pub use lines::RunWriter;
 pub use reader::BitReader;
 pub use runs::{Mode, RunReader, Step, raise};

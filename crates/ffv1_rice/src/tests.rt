@@ -66,6 +66,7 @@ fn lines_written(rt: HostRuntime) -> Result<(), Fail> {
     )?;
     assert_eq!(rt; run.index, 22);
     assert_eq!(rt; bits.finish().as_slice(), [0xFF, 0xFF, 0xFE].as_slice());
+    let mut states = [VlcState::fresh()];
     let mut bits = BitWriter::start(rt.alloc());
     let mut run = RunWriter::start();
     run.line(&mut bits, &mut states, &contexts, &differences)?;

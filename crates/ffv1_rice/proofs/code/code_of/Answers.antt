@@ -18,8 +18,8 @@ read_length : (word k lead read : ℕ) (bits : List ℕ) → IsWindow word bits 
     lead - 20 + 1 + k ≡ length_at k bits
 read_length word k lead read bits is small e few = ap (λ l. l - 20 + 1 + k) e ∙ omega arith ∙ prefix-length k bits few
 
-same_zeros : (lead zeros : ℕ) → lead ≡ zeros + 20 → lead - 20 ≡ zeros
-same_zeros lead zeros e = omega (arith, e)
+same_zeros : (lead count : ℕ) → lead ≡ count + 20 → lead - 20 ≡ count
+same_zeros lead count e = omega (arith, e)
 
 read_number : (word k lead read one : ℕ) (bits : List ℕ) → IsWindow word bits → k ≤ 8 → lead ≡ zeros_at 12 bits + 20 → zeros_at 12 bits < 12 →
     read ≡ word / 2 ^ (64 - (lead - 20 + 1 + k)) → one ≡ 2 ^ k → read + (lead - 20) * one - one ≡ coded_at k bits
