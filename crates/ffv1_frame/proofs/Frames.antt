@@ -1,10 +1,10 @@
 -- Steps of decoding a packet.
-use Rattle.std.proofs.Common.{◌≡◌, ℕ, ◌<◌, List, [], ◌∷◌, ◌++◌, length, get_or, replicate, eqb, sym, ◌∙◌, ap, subst, arith, Result, Ok, Err, inl, inr}
+use Rattle.std.proofs.Common.{◌≡◌, ℕ, ◌<◌, List, [], ◌∷◌, ◌++◌, length, get_or, replicate, reverse, Bool, true, eqb, sym, ◌∙◌, ap, subst, arith, Result, Ok, Err, inl, inr}
 use Rattle.std.specs.Prelude.{slice_index_or}
 use Rattle.std.proofs.lemmas.List.{length-append, get_or_append_left, get_or_push}
 use Rattle.std.proofs.lemmas.Bool.{cases_lt}
 use Rattle.pic_planes.specs.Shape.{Layout}
-use Rattle.ffv1_range.specs.Reading.{Reading}
+use Rattle.ffv1_range.specs.Reading.{Reading, opened, bit_of}
 use Rattle.ffv1_range.specs.Symbol.{source}
 use Rattle.ffv1_range.specs.Transition.{AllKept, IsKept}
 use Rattle.ffv1_record.specs.Parameters.{Parameters}
@@ -14,8 +14,8 @@ use Rattle.ffv1_slice.specs.declared.fault.HeaderFault.{HeaderFault}
 use Rattle.ffv1_slice.specs.declared.fault.HeaderFault.TheVariants as header_faults
 use Rattle.ffv1_slice.specs.Header as headers
 use Rattle.ffv1_frame.specs.declared.fault.DecodeFault.TheVariants.{Frame}
-use Rattle.ffv1_frame.specs.Packet.{Slice, no_slice}
-use Rattle.ffv1_frame.specs.Frame.{Gives, IsKeyFrame, AreHeaders, HeaderGives, reader_at, grid_of, no_header, header_fault_of}
+use Rattle.ffv1_frame.specs.Packet.{Slice, EndsWith, no_slice}
+use Rattle.ffv1_frame.specs.Frame.{Gives, HaveParities, IsKeyFrame, AreHeaders, HeaderGives, reader_at, grid_of, no_header, header_fault_of}
 
 pub keeps_first : (table : List ℕ) → AllKept table (replicate 32 128) → IsKept table 128
 keeps_first table kept = kept 0 (omega arith)
@@ -64,3 +64,11 @@ bad_header p shape packet slices found i header_faults.Header reading frame old 
     record { slices = slices; found = found; reading = reading; frame = frame; headers = old; at = at; within = lt; fault_is = gives }
 bad_header p shape packet slices found i header_faults.TableIndex reading frame old at lt gives =
     record { slices = slices; found = found; reading = reading; frame = frame; headers = old; at = at; within = lt; fault_is = gives }
+
+-- ---- a key frame
+pub key_frame : (p : Parameters) (packet : List ℕ) (slices : List Slice) (ec key : Bool) (table content : List ℕ) → ec ≡ p.ec → (packet ≡ [] → ⊥) → EndsWith p.ec packet (reverse slices) → HaveParities ec slices
+    → table ≡ p.transition → content ≡ (slice_index_or slices 0 no_slice).content → key ≡ bit_of (opened table content) 128 → key ≡ true → IsKeyFrame p packet slices
+key_frame p packet slices ec key table content at_ec some chain parities at_table at_content is is_true = record {
+  sliced = record { some = some; chain = chain; parities = subst (λ (b : Bool). HaveParities b slices) at_ec parities };
+  key = sym (ap (λ (t : List ℕ). bit_of (opened t content) 128) at_table ∙ ap (λ (b : List ℕ). bit_of (opened p.transition b) 128) at_content) ∙ sym is ∙ is_true;
+}

@@ -1,13 +1,15 @@
 //! Decoding a packet. RFC 9043 sections 4.4 to 4.9.
-ghost use Rattle.std.specs.Prelude.{◌≡◌, ◌≢◌, ℕ, ◌<◌, ◌≤◌, ◌+◌, ◌*◌, ◌^◌, [], Ok, Err, true, All, IfOk, IfErr, OnOk, IfSome, List, length, map, replicate, reverse, slice_index_or, vec_len};
+ghost use Rattle.std.specs.Prelude.{◌≡◌, ◌≢◌, ℕ, ◌<◌, ◌≤◌, ◌+◌, ◌*◌, ◌^◌, [], Ok, Err, true, All, IfOk, IfErr, OnOk, MatchOption, IfSome, List, length, map, replicate, reverse, slice_index_or, vec_len};
 ghost use Rattle.pic_planes.specs.Shape.{Layout};
 ghost use Rattle.ffv1_range.specs.Reading.{Reading, opened, bit_of};
 ghost use Rattle.ffv1_range.specs.Transition.{AllKept};
 ghost use Rattle.ffv1_record.specs.Parameters.{Parameters};
+ghost use Rattle.ffv1_frame.specs.Cover.{AreCovered, IsUncovered};
 ghost use Rattle.ffv1_frame.specs.Packet.{EndsWith, IsSpan, slice_at, no_slice};
-ghost use Rattle.ffv1_frame.specs.Frame.{Gives, HaveParities, AreSlices, IsKeyFrame, AreHeaders, HeaderGives, keyframe, reader_at, grid_of, header_fault_of};
+ghost use Rattle.ffv1_frame.specs.Frame.{Gives, HaveParities, AreSlices, IsKeyFrame, HaveHeaders, AreHeaders, HeaderGives, keyframe, reader_at, grid_of, header_fault_of};
 
 use crate::chain::{ChainFault, Span, first_wrong, spans};
+use crate::cover::first_uncovered;
 use crate::fault::DecodeFault;
 use ffv1_range::{RangeReader, Transition};
 use ffv1_record::Record;
@@ -142,4 +144,36 @@ fn header_fault(fault: HeaderFault, slice: u32) -> FrameFault
         HeaderFault::Header => FrameFault::Header { slice },
         HeaderFault::TableIndex => FrameFault::TableIndex { slice },
     }
+}
+
+// The headers of the slices of a packet, which are one for each cell of the grid.
+fn tested(
+    alloc: Global,
+    record: &Record,
+    packet: &[u8],
+    spans: &[Span],
+) -> Result<Vec<Header>, DecodeFault>
+    requires some { packet.now ≢ [] }
+    requires chain { EndsWith record.now.ec packet.now (reverse (map (slice_at packet.now) spans.now)) }
+    requires spans { All (IsSpan packet.now) spans.now }
+    requires few { length spans.now < 2 ^ 32 }
+    ensures ok { IfOk result (λ headers. HaveHeaders record.now packet.now (map (slice_at packet.now) spans.now) headers.items × AreCovered record.now.columns headers.items (record.now.columns * record.now.rows)) }
+    ensures err { IfErr result (λ fault. (shape : Layout) → Gives record.now shape packet.now (Err fault)) }
+{
+    test_parities(packet, spans, record.ec())?;
+    let first = content(packet, spans, 0);
+    if !is_key(first, record.transition()) {
+        return Err(DecodeFault::Frame(FrameFault::NotKey));
+    }
+    let headers = headers_of(alloc, record, packet, spans)?;
+    match uncovered(record, headers.as_slice()) {
+        None => Ok(headers),
+        Some(cell) => Err(DecodeFault::Frame(FrameFault::Cover { cell })),
+    }
+}
+
+fn uncovered(record: &Record, headers: &[Header]) -> Option<u32>
+    ensures { MatchOption result (AreCovered record.now.columns headers.now (record.now.columns * record.now.rows)) (IsUncovered record.now.columns record.now.rows headers.now) }
+{
+    first_uncovered(headers, record.columns(), record.rows())
 }
