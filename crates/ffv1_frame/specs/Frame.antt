@@ -1,5 +1,5 @@
 -- What a packet decodes to: a picture, or the first fault. RFC 9043 sections 4.4 to 4.9.
-use Rattle.std.specs.Prelude.{◌≡◌, ◌≢◌, ℕ, zero, suc, ◌+◌, ◌*◌, ◌<◌, Bool, true, false, ◌==◌, if◌then◌else◌, List, [], ◌∷◌, length, take, reverse, replicate, slice_index_or, All, Result, Ok, Err, ⊤}
+use Rattle.std.specs.Prelude.{◌≡◌, ◌≢◌, ℕ, zero, suc, ◌+◌, ◌*◌, ◌<◌, Bool, true, false, ◌==◌, List, [], ◌∷◌, length, take, reverse, replicate, slice_index_or, All, Result, Ok, Err, ⊤}
 use Rattle.pic_planes.specs.Shape.{Layout}
 use Rattle.pic_planes.specs.Picture.{Image, filled}
 use Rattle.ffv1_range.specs.Reading.{Reading, opened, bit_of, after_bit}
@@ -14,7 +14,9 @@ use Rattle.ffv1_slice.specs.declared.fault.SliceFault.{SliceFault}
 use Rattle.ffv1_slice.specs.declared.fault.SliceFault.TheVariants as slice_faults
 use Rattle.ffv1_slice.specs.Header as headers
 use Rattle.ffv1_slice.specs.Cells.{areas_of}
+use Rattle.ffv1_slice.specs.Area.{chroma_areas}
 use Rattle.ffv1_slice.specs.Slice as slices
+use Rattle.tl_model.specs.declared.fault.FrameFault.{FrameFault}
 use Rattle.tl_model.specs.declared.fault.FrameFault.TheVariants.{Empty, Chain, Parity, NotKey, Header as BadHeader, TableIndex, Cover, Symbol, Overrun}
 use Rattle.ffv1_frame.specs.declared.fault.DecodeFault.{DecodeFault}
 use Rattle.ffv1_frame.specs.declared.fault.DecodeFault.TheVariants.{Frame, NoMemory}
@@ -42,19 +44,18 @@ pub record AreSlices (p : Parameters) (packet : List ℕ) (slices : List Slice) 
 
 -- The frame is a key frame.
 pub record IsKeyFrame (p : Parameters) (packet : List ℕ) (slices : List Slice) : Type 0 where
-  pub slices : AreSlices p packet slices
+  pub sliced : AreSlices p packet slices
   pub key : keyframe p.transition slices ≡ true
 
 -- ---- the headers
 -- a reader at the header of a slice, which in the first slice stands behind the bit of the key frame
-abbrev pub at_header : List ℕ → ℕ → Slice → Reading
-at_header table i slice =
-    let start : Reading = opened table slice.content in
-    if i == 0 then after_bit start 128 else start
+abbrev pub reader_at : List ℕ → Bool → List ℕ → Reading
+reader_at table true content = after_bit (opened table content) 128
+reader_at table false content = opened table content
 
 -- What the header of a slice gives, counted from 0.
 abbrev pub HeaderGives : Parameters → ℕ → Slice → Reading → Result Header HeaderFault → Type 0
-HeaderGives p i slice reading result = headers.Gives (grid_of p) (source (at_header p.transition i slice) (replicate 32 128)) reading result
+HeaderGives p i slice reading result = headers.Gives (grid_of p) (source (reader_at p.transition (i == 0) slice.content) (replicate 32 128)) reading result
 
 abbrev pub no_header : Header
 no_header = record { x = 0; y = 0; columns = 0; rows = 0; luma_set = 0; chroma_set = 0 }
@@ -82,12 +83,16 @@ pub record IsBadHeader (p : Parameters) (packet : List ℕ) (i : ℕ) (fault : H
   pub within : i < length slices
   pub fault_is : HeaderGives p i (slice_index_or slices i no_slice) reading (Err fault)
 
+abbrev pub header_fault_of : HeaderFault → ℕ → FrameFault
+header_fault_of header_faults.Header i = BadHeader i
+header_fault_of header_faults.TableIndex i = TableIndex i
+
 -- ---- the samples
 -- the tables of a slice's header, and the areas of its cells
 abbrev pub slice_by : Parameters → Header → Areas → slices.Slice
 slice_by p h areas = record {
   luma = slices.part (tables_of p h.luma_set) (context_count_of p h.luma_set) (areas.luma ∷ []);
-  chroma = slices.part (tables_of p h.chroma_set) (context_count_of p h.chroma_set) (slices.chroma_areas areas.chroma);
+  chroma = slices.part (tables_of p h.chroma_set) (context_count_of p h.chroma_set) (chroma_areas areas.chroma);
 }
 
 -- What the samples of a slice give, in the picture of the slices before it.

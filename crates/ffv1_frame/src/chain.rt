@@ -1,5 +1,5 @@
 //! The slices of a packet, found from its end. RFC 9043 section 4.9.
-ghost use Rattle.std.specs.Prelude.{◌≡◌, ℕ, ◌<◌, ◌≤◌, ◌+◌, ◌^◌, List, ◌∷◌, ◌++◌, length, map, take, IfSome, IfNone, IsNone, IfOk, IfErr, true, MatchOption, ◌↔◌, Bool, All, reverse, slice_index_or};
+ghost use Rattle.std.specs.Prelude.{◌≡◌, ℕ, ◌<◌, ◌≤◌, ◌+◌, ◌*◌, ◌^◌, List, vec_len, ◌∷◌, ◌++◌, length, map, take, IfSome, IfNone, IsNone, IfOk, IfErr, true, MatchOption, ◌↔◌, Bool, All, reverse, slice_index_or};
 ghost use Rattle.ffv1_frame.specs.declared.chain.ChainFault.TheVariants as ChainFault;
 ghost use Rattle.ffv1_frame.specs.Packet.{Slice, IsSlice, IsSpan, HasParity, no_slice, EndsWith, bytes_of, slice_at, footer_length};
 
@@ -43,6 +43,7 @@ impl<T: Drop> From<AllocFailed<T>> for ChainFault {
 pub(crate) fn spans(alloc: Global, packet: &[u8], ec: bool) -> Result<Vec<Span>, ChainFault>
     ensures found { IfOk result (λ spans. EndsWith ec packet.now (reverse (map (slice_at packet.now) spans.items))) }
     ensures spans { IfOk result (λ spans. All (IsSpan packet.now) spans.items) }
+    ensures few { IfOk result (λ spans. 3 * vec_len spans ≤ length packet.now) }
     ensures broken { IfErr result (λ fault. fault ≡ ChainFault.Broken → (slices : List Slice) → EndsWith ec packet.now slices → ⊥) }
 {
     let spans = spans_backwards(alloc, packet, ec)?;
@@ -60,6 +61,7 @@ fn reversed(alloc: Global, spans: &[Span]) -> Result<Vec<Span>, AllocError>
 fn spans_backwards(alloc: Global, packet: &[u8], ec: bool) -> Result<Vec<Span>, ChainFault>
     ensures found { IfOk result (λ spans. EndsWith ec packet.now (map (slice_at packet.now) spans.items)) }
     ensures spans { IfOk result (λ spans. All (IsSpan packet.now) spans.items) }
+    ensures few { IfOk result (λ spans. 3 * vec_len spans ≤ length packet.now) }
     ensures broken { IfErr result (λ fault. fault ≡ ChainFault.Broken → (slices : List Slice) → EndsWith ec packet.now slices → ⊥) }
 {
     let mut spans = Vec::new(alloc);
@@ -79,7 +81,7 @@ fn spans_backwards(alloc: Global, packet: &[u8], ec: bool) -> Result<Vec<Span>, 
 // content whose size it gives.
 fn last_span(packet: &[u8], end: usize, ec: bool) -> Option<Span>
     requires { end ≤ length packet.now }
-    ensures some { IfSome result (λ span. (span.from < end) × IsSpan packet.now span × (take end packet.now ≡ take span.from packet.now ++ bytes_of (slice_at packet.now span)) × IsSlice ec (slice_at packet.now span)) }
+    ensures some { IfSome result (λ span. (span.from + 3 ≤ end) × IsSpan packet.now span × (take end packet.now ≡ take span.from packet.now ++ bytes_of (slice_at packet.now span)) × IsSlice ec (slice_at packet.now span)) }
     ensures none { IfNone result ((before : List ℕ) (slice : Slice) → take end packet.now ≡ before ++ bytes_of slice → IsSlice ec slice → ⊥) }
 {
     let footer_length = footer_length(ec);

@@ -4,5 +4,6 @@
 mod chain;
 mod cover;
 mod fault;
+mod frame;
 
 pub use fault::DecodeFault;

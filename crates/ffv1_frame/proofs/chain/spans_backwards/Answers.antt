@@ -9,6 +9,7 @@ use Rattle.ffv1_frame.proofs.chain.spans_backwards.Goals as goal
 pub loop-end-init : goal.loop-end-init
 loop-end-init c = record {
   within = omega arith;
+  few = omega (arith, c.new-spans.ensures.len);
   spans = rw c.new-spans.ensures.items (λ i d lt. absurd (omega arith));
   found = rw (take_all (length c.args.packet.now) c.args.packet.now (omega arith), c.new-spans.ensures.items) (none_found c.args.ec c.args.packet.now);
 }
@@ -21,6 +22,7 @@ returns-in-None-clause-broken c = λ _ slices.
 pub loop-end-preserved : goal.loop-end-preserved
 loop-end-preserved c = record {
   within = omega (arith, c.in-Some.ensures.some.0, c.loop-end.invariant.within);
+  few = omega (arith, c.in_ok-push.ensures.len, c.in-Some.ensures.some.0, c.loop-end.invariant.few);
   spans = rw c.in_ok-push.ensures.items (All-push (IsSpan c.args.packet.now) c.loop-end.spans.items c.in-Some.span c.loop-end.invariant.spans c.in-Some.ensures.some.1);
   found = rw (c.in_ok-push.ensures.items, map_push (slice_at c.args.packet.now) c.loop-end.spans.items c.in-Some.span)
       (one_found c.args.ec c.args.packet.now (take c.loop-end.end c.args.packet.now) (take c.in-Some.span.from c.args.packet.now) (map (slice_at c.args.packet.now) c.loop-end.spans.items) (slice_at c.args.packet.now c.in-Some.span)
