@@ -1,1 +1,13 @@
+pub mod Runs
+pub mod Parts
+pub mod Cuts
+pub mod Steps
+pub mod Places
+pub mod Changed
+pub mod Reasons
+pub mod Reshaped
+pub mod Replacing
+pub mod Located
+pub mod Proposed
+pub mod Applying
 pub mod Sound

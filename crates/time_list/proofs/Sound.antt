@@ -18,7 +18,7 @@ use Rattle.tl_model.specs.Edit.{IsReplacement, IsEdit}
 use Rattle.tl_model.specs.Segment.{IsMix}
 use Rattle.tl_model.specs.Sound.{IsSoundMix, AreSound, IsSound}
 use Rattle.time_list.specs.Parts.{start_of, end_of, parts_at, first_side, last_side}
-use Rattle.time_list.specs.Edits.{Proposal, headed, fresh, plain, sides_from, side_before, side_by, trimmed_in, trimmed_out, with_dissolve, relinked, dissolved, shown_from, outgoing_sides, sides_of, with_own, proposal}
+use Rattle.time_list.specs.Edits.{Proposal, headed, fresh, plain, sides_from, side_before, side_by, trimmed_in, trimmed_out, slipped, with_dissolve, dissolved, shown_from, outgoing_sides, sides_of, with_own, proposal}
 use Rattle.time_list.specs.Apply.{names_no_clip, differs, is_late, first_of, unless, too_large, against, apply}
 
 AreSound-append : {F : Type 0} (lib : Library F) (xs ys : List Cell) → AreSound lib xs → AreSound lib ys → AreSound lib (xs ++ ys)
@@ -241,40 +241,25 @@ between-sound lib at end new line s fresh =
 cut-sound : {F : Type 0} (lib : Library F) (at end : ℕ) (line : List Cell) → AreSound lib line → AreSound lib (take at line ++ headed (drop end line))
 cut-sound lib at end line s = AreSound-append lib (take at line) (headed (drop end line)) (AreSound-take lib at line s) (AreSound-headed lib (drop end line) (AreSound-drop lib end line s))
 
-trim_in-sound : {F : Type 0} (lib : Library F) (at : ℕ) (by : ℤ) (line : List Cell) → AreSound lib line → IsClear lib (trimmed_in at by line) → AreSound lib (trimmed_in at by line).line
-trim_in-sound lib at (pos by) line s c =
-    let own = own-sound lib at line s in
-    with_own-sound lib at line (headed (drop by (parts_at at line).own)) s (AreSound-headed lib (drop by (parts_at at line).own) (AreSound-drop lib by (parts_at at line).own own))
-trim_in-sound lib at (negsuc by) line s c =
-    let own = own-sound lib at line s in
-    let first = side_before (by + 1) (first_side (parts_at at line).own) in
-    with_own-sound lib at line (fresh first (by + 1) ++ map (λ (c : Cell). plain c.side) (parts_at at line).own) s
-    (AreSound-append lib (fresh first (by + 1)) (map (λ (c : Cell). plain c.side) (parts_at at line).own)
-    (fresh-sound lib first (by + 1) 0 (by + 1) c.taken)
-    (unmixed-sound lib (parts_at at line).own own))
+-- what an edit of a segment's own cells keeps
+trim_in-sound : {F : Type 0} (lib : Library F) (by : ℤ) (own : List Cell) → AreSound lib own → AreShown lib (trimmed_in by own).taken → AreSound lib (trimmed_in by own).line
+trim_in-sound lib (pos by) own s t = AreSound-headed lib (drop by own) (AreSound-drop lib by own s)
+trim_in-sound lib (negsuc by) own s t =
+    let first = side_before (by + 1) (first_side own) in
+    AreSound-append lib (fresh first (by + 1)) (map (λ (c : Cell). plain c.side) own) (fresh-sound lib first (by + 1) 0 (by + 1) t) (unmixed-sound lib own s)
 
-trim_out-sound : {F : Type 0} (lib : Library F) (at : ℕ) (by : ℤ) (line : List Cell) → AreSound lib line → IsClear lib (trimmed_out at by line) → AreSound lib (trimmed_out at by line).line
-trim_out-sound lib at (pos by) line s c =
-    let own = (parts_at at line).own in
-    with_own-sound lib at line (take (length own - by) own) s (AreSound-take lib (length own - by) own (own-sound lib at line s))
-trim_out-sound lib at (negsuc by) line s c =
-    let own = (parts_at at line).own in
+trim_out-sound : {F : Type 0} (lib : Library F) (by : ℤ) (own : List Cell) → AreSound lib own → AreShown lib (trimmed_out by own).taken → AreSound lib (trimmed_out by own).line
+trim_out-sound lib (pos by) own s t = AreSound-take lib (length own - by) own s
+trim_out-sound lib (negsuc by) own s t =
     let more = sides_from (last_side own) 1 (by + 1) in
-    with_own-sound lib at line (own ++ map plain more) s (AreSound-append lib own (map plain more) (own-sound lib at line s) (plain-sound lib more c.taken))
+    AreSound-append lib own (map plain more) s (plain-sound lib more t)
 
-dissolve-sound : {F : Type 0} (lib : Library F) (at len : ℕ) (line : List Cell) → AreSound lib line → IsClear lib (with_dissolve at len line) → AreSound lib (with_dissolve at len line).line
-dissolve-sound lib at len line s c =
-    let own = (parts_at at line).own in
-    let from = last_side (parts_at at line).before in
+dissolve-sound : {F : Type 0} (lib : Library F) (from : Side) (len : ℕ) (own : List Cell) → AreSound lib own → AreShown lib (with_dissolve from len own).taken → AreSound lib (with_dissolve from len own).line
+dissolve-sound lib from len own s t =
     let z : 1 ≡ 0 + 1 = omega arith in
     let l : len ≡ len - 0 = omega arith in
-    let taken : AreShown lib (run (side_at from) (0 + 1) (min (len - 0) (length own))) = subst (λ (k : ℕ). AreShown lib (run (side_at from) (0 + 1) (min k (length own)))) l (subst (λ (k : ℕ). AreShown lib (run (side_at from) k (min len (length own)))) z c.taken) in
-    with_own-sound lib at line (dissolved from len 0 own) s (dissolved-sound lib from len 0 own taken (own-sound lib at line s))
-
-relink-sound : {F : Type 0} (lib : Library F) (at clip first : ℕ) (line : List Cell) → AreSound lib line → IsClear lib (relinked at clip first line) → AreSound lib (relinked at clip first line).line
-relink-sound lib at clip first line s c =
-    let own = (parts_at at line).own in
-    with_own-sound lib at line (shown_from clip first own) s (relinked-sound lib clip first 0 first own (omega arith) c.taken (own-sound lib at line s))
+    let taken : AreShown lib (run (side_at from) (0 + 1) (min (len - 0) (length own))) = subst (λ (k : ℕ). AreShown lib (run (side_at from) (0 + 1) (min k (length own)))) l (subst (λ (k : ℕ). AreShown lib (run (side_at from) k (min len (length own)))) z t) in
+    dissolved-sound lib from len 0 own taken s
 
 pub proposal-sound : {F : Type 0} (lib : Library F) (e : Edit) (line : List Cell) → AreSound lib line → IsEdit e → IsClear lib (proposal e line) → AreSound lib (proposal e line).line
 proposal-sound lib (edit.Insert at side len) line s formed c = between-sound lib at at (fresh side len) line s (fresh-sound lib side len 0 len c.taken)
@@ -282,13 +267,22 @@ proposal-sound lib (edit.Extract at len) line s formed c = cut-sound lib at (at 
 proposal-sound lib (edit.Overwrite at side len) line s formed c = between-sound lib at (at + len) (fresh side len) line s (fresh-sound lib side len 0 len c.taken)
 proposal-sound lib (edit.Lift at len) line s formed c = between-sound lib at (at + len) (fresh side.Black len) line s (fresh-sound lib side.Black len 0 len (black-shown lib 0 len))
 proposal-sound lib (edit.Split at) line s formed c = cut-sound lib at at line s
-proposal-sound lib (edit.TrimIn at by) line s formed c = trim_in-sound lib at by line s c
-proposal-sound lib (edit.TrimOut at by) line s formed c = trim_out-sound lib at by line s c
+proposal-sound lib (edit.TrimIn at by) line s formed c =
+    let own = (parts_at at line).own in
+    with_own-sound lib at line (trimmed_in by own).line s (trim_in-sound lib by own (own-sound lib at line s) c.taken)
+proposal-sound lib (edit.TrimOut at by) line s formed c =
+    let own = (parts_at at line).own in
+    with_own-sound lib at line (trimmed_out by own).line s (trim_out-sound lib by own (own-sound lib at line s) c.taken)
 proposal-sound lib (edit.Slip at by) line s formed c =
     let own = (parts_at at line).own in
-    with_own-sound lib at line (map (λ (c : Cell). record { side = side_by by c.side; mix = c.mix; is_head = c.is_head }) own) s (slipped-sound lib by own c.taken (own-sound lib at line s))
-proposal-sound lib (edit.Dissolve at len) line s formed c = dissolve-sound lib at len line s c
-proposal-sound lib (edit.Relink at clip first) line s formed c = relink-sound lib at clip first line s c
+    with_own-sound lib at line (slipped by own).line s (slipped-sound lib by own c.taken (own-sound lib at line s))
+proposal-sound lib (edit.Dissolve at len) line s formed c =
+    let own = (parts_at at line).own in
+    let from = last_side (parts_at at line).before in
+    with_own-sound lib at line (with_dissolve from len own).line s (dissolve-sound lib from len own (own-sound lib at line s) c.taken)
+proposal-sound lib (edit.Relink at clip first) line s formed c =
+    let own = (parts_at at line).own in
+    with_own-sound lib at line (shown_from clip first own) s (relinked-sound lib clip first 0 first own (omega arith) c.taken (own-sound lib at line s))
 proposal-sound lib (edit.Replace segments) line s formed c = cells-sound lib segments formed c.taken
 
 pub apply_keeps : {F : Type 0} (lib : Library F) (e : Edit) (line after : List Cell) → IsSound lib line → IsEdit e → apply lib e line ≡ Ok after → IsSound lib after

@@ -75,43 +75,51 @@ divided at line = rearranged (nat_le (length line) at) (take at line ++ headed (
 abbrev pub with_own : Parts → List Cell → List Cell
 with_own p own = p.before ++ own ++ p.after
 
+-- A proposal for the cells of the segment that has frame `at`, as one for the timeline.
+abbrev pub in_segment : (List Cell → Proposal) → ℕ → List Cell → Proposal
+in_segment change at line = let p = parts_at at line in let q = change p.own in record {
+  line = with_own p q.line;
+  taken = q.taken;
+  past_end = nat_le (length line) at || q.past_end;
+  no_cut = q.no_cut;
+  early = q.early;
+  too_long = q.too_long;
+}
+
 -- The first `by` cells of a segment go; the next becomes its start and keeps its step of the dissolve.
-abbrev pub shortened_in : ℕ → ℕ → List Cell → Proposal
-shortened_in at by line = let p = parts_at at line in
-    rearranged (nat_le (length line) at || nat_le (length p.own) by) (with_own p (headed (drop by p.own)))
+abbrev pub shortened_in : ℕ → List Cell → Proposal
+shortened_in by own = rearranged (nat_le (length own) by) (headed (drop by own))
 
 -- A cell that goes on from the one before it.
 abbrev pub plain : Side → Cell
 plain side = record { side = side; mix = None; is_head = false }
 
 -- The `by` frames before the segment's first come before it as its start, and its dissolve is gone.
-abbrev pub lengthened_in : ℕ → ℕ → List Cell → Proposal
-lengthened_in at by line = let p = parts_at at line in let first = side_before by (first_side p.own) in record {
-  line = with_own p (fresh first by ++ map (λ c. plain c.side) p.own);
+abbrev pub lengthened_in : ℕ → List Cell → Proposal
+lengthened_in by own = let first = side_before by (first_side own) in record {
+  line = fresh first by ++ map (λ c. plain c.side) own;
   taken = sides_from first 0 by;
-  past_end = nat_le (length line) at;
+  past_end = false;
   no_cut = false;
-  early = is_early by (first_side p.own);
+  early = is_early by (first_side own);
   too_long = false;
 }
 
-abbrev pub trimmed_in : ℕ → ℤ → List Cell → Proposal
-trimmed_in at (pos by) line = shortened_in at by line
-trimmed_in at (negsuc by) line = lengthened_in at (by + 1) line
+abbrev pub trimmed_in : ℤ → List Cell → Proposal
+trimmed_in (pos by) own = shortened_in by own
+trimmed_in (negsuc by) own = lengthened_in (by + 1) own
 
 -- The last `by` cells of a segment go.
-abbrev pub shortened_out : ℕ → ℕ → List Cell → Proposal
-shortened_out at by line = let p = parts_at at line in
-    rearranged (nat_le (length line) at || nat_le (length p.own) by) (with_own p (take (length p.own - by) p.own))
+abbrev pub shortened_out : ℕ → List Cell → Proposal
+shortened_out by own = rearranged (nat_le (length own) by) (take (length own - by) own)
 
 -- The `by` frames after the segment's last come after it, without a dissolve.
-abbrev pub lengthened_out : ℕ → ℕ → List Cell → Proposal
-lengthened_out at by line = let p = parts_at at line in let more = sides_from (last_side p.own) 1 by in
-    taking more (nat_le (length line) at) (with_own p (p.own ++ map plain more))
+abbrev pub lengthened_out : ℕ → List Cell → Proposal
+lengthened_out by own = let more = sides_from (last_side own) 1 by in taking more false (own ++ map plain more)
 
-abbrev pub trimmed_out : ℕ → ℤ → List Cell → Proposal
-trimmed_out at (pos by) line = shortened_out at by line
-trimmed_out at (negsuc by) line = lengthened_out at (by + 1) line
+abbrev pub trimmed_out : ℤ → List Cell → Proposal
+trimmed_out (pos by) own = shortened_out by own
+trimmed_out (negsuc by) own = lengthened_out (by + 1) own
 
 -- A side `by` frames on or back.
 abbrev pub side_by : ℤ → Side → Side
@@ -123,13 +131,13 @@ is_early_by (pos by) side = false
 is_early_by (negsuc by) side = is_early (by + 1) side
 
 -- Each side of a segment moves; the outgoing sides of its dissolve stay.
-abbrev pub slipped : ℕ → ℤ → List Cell → Proposal
-slipped at by line = let p = parts_at at line in record {
-  line = with_own p (map (λ c. record { side = side_by by c.side; mix = c.mix; is_head = c.is_head }) p.own);
-  taken = map (λ c. side_by by c.side) p.own;
-  past_end = nat_le (length line) at;
+abbrev pub slipped : ℤ → List Cell → Proposal
+slipped by own = record {
+  line = map (λ c. record { side = side_by by c.side; mix = c.mix; is_head = c.is_head }) own;
+  taken = map (λ c. side_by by c.side) own;
+  past_end = false;
   no_cut = false;
-  early = list_any (λ c. is_early_by by c.side) p.own;
+  early = list_any (λ c. is_early_by by c.side) own;
   too_long = false;
 }
 
@@ -144,25 +152,29 @@ dissolved from total done (c ∷ cs) =
       is_head = c.is_head;
     } ∷ dissolved from total (done + 1) cs
 
--- A dissolve from the segment before, in place of any that the segment has.
-abbrev pub with_dissolve : ℕ → ℕ → List Cell → Proposal
-with_dissolve at len line = let p = parts_at at line in let from = last_side p.before in record {
-  line = with_own p (dissolved from len 0 p.own);
-  taken = sides_from from 1 (min len (length p.own));
-  past_end = nat_le (length line) at;
-  no_cut = (at == 0) || not (is_cut at line);
+-- A dissolve from `from` on, in place of any that the segment has.
+abbrev pub with_dissolve : Side → ℕ → List Cell → Proposal
+with_dissolve from len own = record {
+  line = dissolved from len 0 own;
+  taken = sides_from from 1 (min len (length own));
+  past_end = false;
+  no_cut = false;
   early = false;
-  too_long = nat_lt (length p.own) len || nat_lt max_mix len;
+  too_long = nat_lt (length own) len || nat_lt max_mix len;
 }
+
+-- The dissolve goes on from the segment before the one that frame `at` begins.
+abbrev pub joined : ℕ → ℕ → List Cell → Proposal
+joined at len line = let q = in_segment (with_dissolve (last_side (parts_at at line).before) len) at line in
+    record q { no_cut = (at == 0) || not (is_cut at line) }
 
 -- The cells show a clip from its frame `first` on; their dissolve stays.
 abbrev pub shown_from : ℕ → ℕ → List Cell → List Cell
 shown_from clip first [] = []
 shown_from clip first (c ∷ cs) = record { side = side.Clip clip first; mix = c.mix; is_head = c.is_head } ∷ shown_from clip (first + 1) cs
 
-abbrev pub relinked : ℕ → ℕ → ℕ → List Cell → Proposal
-relinked at clip first line = let p = parts_at at line in
-    taking (sides_from (side.Clip clip first) 0 (length p.own)) (nat_le (length line) at) (with_own p (shown_from clip first p.own))
+abbrev pub relinked : ℕ → ℕ → List Cell → Proposal
+relinked clip first own = taking (sides_from (side.Clip clip first) 0 (length own)) false (shown_from clip first own)
 
 -- The sides of a segment's frames, and the outgoing ones of those of its frames that dissolve.
 abbrev pub outgoing_sides : Option Mix → ℕ → List Side
@@ -192,9 +204,9 @@ proposal (edit.Extract at len) line = extracted at len line
 proposal (edit.Overwrite at side len) line = overwritten at side len line
 proposal (edit.Lift at len) line = lifted at len line
 proposal (edit.Split at) line = divided at line
-proposal (edit.TrimIn at by) line = trimmed_in at by line
-proposal (edit.TrimOut at by) line = trimmed_out at by line
-proposal (edit.Slip at by) line = slipped at by line
-proposal (edit.Dissolve at len) line = with_dissolve at len line
-proposal (edit.Relink at clip first) line = relinked at clip first line
+proposal (edit.TrimIn at by) line = in_segment (trimmed_in by) at line
+proposal (edit.TrimOut at by) line = in_segment (trimmed_out by) at line
+proposal (edit.Slip at by) line = in_segment (slipped by) at line
+proposal (edit.Dissolve at len) line = joined at len line
+proposal (edit.Relink at clip first) line = in_segment (relinked clip first) at line
 proposal (edit.Replace segments) line = replaced segments

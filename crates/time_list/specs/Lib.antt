@@ -3,3 +3,5 @@ pub mod Edits
 pub mod Patch
 pub mod Apply
 pub mod Pieces
+pub mod Changes
+pub mod Found
