@@ -4,10 +4,9 @@ use Rattle.std.proofs.lemmas.List.{reverse-append}
 use Rattle.tl_model.specs.Cells.{Cell}
 use Rattle.tl_model.specs.declared.edit.EditRefusal.{EditRefusal}
 use Rattle.tl_model.specs.declared.edit.EditReply.TheVariants as answer
-use Rattle.time_list.specs.declared.lane.ApplyFault.{ApplyFault}
 use Rattle.time_list.specs.declared.lane.ApplyFault.TheVariants as fault
 use Rattle.time_list.specs.Apply.{Applies}
-use Rattle.time_list.specs.Patch.{PatchOf, patched, IsPatchOf, LeadsBack}
+use Rattle.time_list.specs.Patch.{PatchOf, LeadsBack}
 use Rattle.edit_undo.specs.History.{History, with_line, Makes}
 use Rattle.edit_undo.specs.Patches.{lines_back, LeadBack, Stacks, AreStacks, history_of}
 

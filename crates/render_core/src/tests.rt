@@ -3,12 +3,17 @@
 mod numbers;
 mod session;
 
-use crate::board::Board;
+use crate::export::Exports;
+use crate::jobs::Jobs;
 use crate::reply::{AskReply, CancelReply, FileReply, Full, ReleaseReply, WantReply};
+use crate::results::Results;
+use edit_undo::Editor;
 use numbers::Numbers;
 use session::{Call, Late, Row, Told, play_late, play_rows};
 use time_list::ListLane;
-use tl_model::{Edit, EditRefusal, EditReply, Ending, FrameFault, Recipe, RenderFault, Side};
+use tl_model::{
+    Edit, EditRefusal, EditReply, Ending, FrameFault, Journal, Recipe, RenderFault, Side,
+};
 
 /// A wanted frame is cancelled while its job is held, and wanted again.
 #[rattlefmt::skip]
@@ -191,8 +196,24 @@ const LATE: [Late; 11] = [
 
 fn crosses_threads<T: Send>(_value: &T) {}
 
-fn board_crosses(board: &Board<Numbers, ListLane>) {
-    crosses_threads(board)
+fn jobs_cross(jobs: &Jobs) {
+    crosses_threads(jobs)
+}
+
+fn exports_cross(exports: &Exports) {
+    crosses_threads(exports)
+}
+
+fn editor_crosses(editor: &Editor<ListLane>) {
+    crosses_threads(editor)
+}
+
+fn journal_crosses(journal: &Journal) {
+    crosses_threads(journal)
+}
+
+fn results_cross(results: &Results<Numbers>) {
+    crosses_threads(results)
 }
 
 #[test]

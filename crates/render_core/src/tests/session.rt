@@ -7,7 +7,8 @@ use super::numbers::Numbers;
 use crate::board::Board;
 use crate::claim::{Claim, Stopper};
 use crate::reply::{
-    AskReply, CancelReply, ClaimReply, FileReply, Full, PlayReply, ReleaseReply, ShowReply, TakeReply, WantReply,
+    AskReply, CancelReply, ClaimReply, FileReply, Full, PlayReply, ReleaseReply, ShowReply,
+    TakeReply, WantReply,
 };
 use std::alloc::Global;
 use std::marker::Model;
@@ -184,7 +185,11 @@ fn exported(rt: &impl Abort, board: &mut Numbered, pass: u32, ending: Ending) ->
         TakeReply::Taken(job) => {
             let export = job.export();
             assert!(rt; job.name().as_str() == "o.mkv");
-            let len = job.state().as_slice().first().map_or(0, |segment| segment.len);
+            let len = job
+                .state()
+                .as_slice()
+                .first()
+                .map_or(0, |segment| segment.len);
             board.end_export(pass, job, ending);
             Told::Taken { export, len }
         }

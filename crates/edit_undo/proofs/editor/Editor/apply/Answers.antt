@@ -1,5 +1,4 @@
 use Rattle.std.proofs.Common.{List, ap, ◌∙◌, ◌++◌, ◌∷◌, [], refl}
-use Rattle.tl_model.specs.Cells.{Cell}
 use Rattle.time_list.specs.Apply.{apply}
 use Rattle.time_list.specs.Patch.{PatchOf}
 use Rattle.edit_undo.proofs.Applied.{AreStacks-made, Makes-made, AreStacks-refused, Makes-refused}
