@@ -131,7 +131,12 @@ fn are_rows(segments: &[Segment], rows: &[Row]) -> bool {
             .all(|(segment, row)| is_row(segment, row))
 }
 
+/// The segments of a list of few lines over few clips.
+#[tactic(auto, using(text_words::proofs::Lining::few_lines))]
 fn segments_of(alloc: Global, clips: &Clips, text: &str) -> Result<Segments, EdlFault> {
+    if text.len() > 10_000 || clips.as_slice().len() > 1_000 {
+        return Err(EdlFault::NoMemory);
+    }
     let list = read_edl(alloc, text.as_bytes(), 25)?;
     build(alloc, &list, clips)
 }

@@ -3,3 +3,4 @@ pub mod Line
 pub mod List
 pub mod Names
 pub mod Writing
+pub mod Law

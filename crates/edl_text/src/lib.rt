@@ -5,6 +5,7 @@ mod assembly;
 mod event;
 mod fault;
 mod label;
+mod law;
 mod line;
 mod names;
 mod reading;
@@ -14,6 +15,7 @@ mod writing;
 pub use event::{Edl, Event, Events};
 pub use fault::{EdlFault, EdlWhy};
 pub use label::Text;
+pub use law::lists_read_back;
 pub use reading::read_edl;
 pub use writing::write_edl;
 

@@ -1,6 +1,8 @@
 //! A list that is read, written and read again.
 
-use crate::{EdlFault, EdlWhy, Event, read_edl, write_edl};
+ghost use Rattle.tl_limits.specs.Limits.{IsRate};
+
+use crate::{Edl, EdlFault, EdlWhy, Event, read_edl, write_edl};
 use std::alloc::Global;
 use std::test::Fail;
 
@@ -65,9 +67,20 @@ fn numbers(event: &Event) -> (u32, Option<u32>, [u32; 4]) {
     (event.number, event.duration, times)
 }
 
+/// A list of few lines.
+#[tactic(auto, using(text_words::proofs::Lining::few_lines))]
+fn list_of(alloc: Global, text: &[u8], rate: u32) -> Result<Edl, EdlFault>
+    requires { IsRate rate }
+{
+    if text.len() > 10_000 {
+        return Err(EdlFault::NoMemory);
+    }
+    read_edl(alloc, text, rate)
+}
+
 /// The text that a list is written as once it is read.
 fn rewritten(alloc: Global, text: &[u8]) -> Result<Vec<u8>, EdlFault> {
-    let list = read_edl(alloc, text, 25)?;
+    let list = list_of(alloc, text, 25)?;
     Ok(write_edl(alloc, &list, 25)?)
 }
 
@@ -79,7 +92,7 @@ fn is_text(written: &Result<Vec<u8>, EdlFault>, text: &str) -> bool {
 }
 
 fn third(alloc: Global, text: &[u8]) -> Result<(u32, Option<u32>, [u32; 4]), EdlFault> {
-    let list = read_edl(alloc, text, 25)?;
+    let list = list_of(alloc, text, 25)?;
     match list.events.as_slice() {
         [_, _, event] => Ok(numbers(event)),
         _ => Err(EdlFault::NoMemory),
@@ -100,7 +113,7 @@ fn a_list_is_written_and_read_back(rt: HostRuntime) -> Result<(), Fail> {
 #[test]
 fn lines_are_passed_over_or_faulty(rt: HostRuntime) -> Result<(), Fail> {
     for (line, fault) in &LINES {
-        let given = match read_edl(rt.alloc(), line.as_bytes(), 24) {
+        let given = match list_of(rt.alloc(), line.as_bytes(), 24) {
             Err(EdlFault::Line { why, .. }) => Some(why),
             _ => None,
         };

@@ -1,9 +1,10 @@
 -- The first line of a text.
-use Rattle.std.proofs.Common.{◌≡◌, ℕ, ◌+◌, ◌-◌, ◌<◌, Bool, true, false, cond, ltb, List, [], ◌∷◌, length, take, drop, Option, Some, None, refl, ap, ◌∙◌, nat_eq, subst}
+use Rattle.std.proofs.Common.{◌≡◌, ℕ, ◌+◌, ◌-◌, ◌<◌, ◌≤◌, Bool, true, false, cond, ltb, List, [], ◌∷◌, length, take, drop, Option, Some, None, refl, ap, ◌∙◌, nat_eq, subst, arith}
 use Rattle.std.specs.List.{slice_split, onto_first, position_from, position_or_len, before_first, after_first}
 use Rattle.std.specs.Str.Lines.{lines, lines_of_parts, strip_carriage_return}
-use Rattle.std.proofs.lemmas.List.Splits.{slice_split_first, slice_split-cons_no}
+use Rattle.std.proofs.lemmas.List.Splits.{slice_split_first, slice_split-cons_no, length-slice_split}
 use Rattle.std.proofs.lemmas.List.{take_rest}
+use Rattle.std.proofs.lemmas.List.Sums.{count_by-le-length}
 use Rattle.std.proofs.lemmas.Iterator.Adapters.{position_from-zero}
 use borrow.Author.Tests.{ltb-true}
 
@@ -57,3 +58,16 @@ lines-last text some e = ap lines_of_parts (one_piece 0 text e) ∙ rw some refl
 
 pub lines-first_of : (text front : List ℕ) (at : ℕ) → position_from is_feed 0 text ≡ Some at → front ≡ strip_carriage_return (take at text) → lines text ≡ front ∷ lines (take (length text - (at + 1)) (drop (at + 1) text))
 lines-first_of text front at e f = rw (take_rest text (at + 1), f) (lines-first text at e)
+
+-- a text has at most one line more than it has bytes
+lines_of_parts-length : (parts : List (List ℕ)) → length (lines_of_parts parts) ≤ length parts
+lines_of_parts-length [] = omega arith
+lines_of_parts-length (x ∷ []) = short (nat_eq (length x) 0)
+  where
+    short : (b : Bool) → length (cond b [] (x ∷ [])) ≤ length (x ∷ [])
+    short true = omega arith
+    short false = omega arith
+lines_of_parts-length (x ∷ y ∷ more) = omega (arith, lines_of_parts-length (y ∷ more))
+
+pub few_lines : (text : List ℕ) → length (lines text) ≤ length text + 1
+few_lines text = omega (arith, lines_of_parts-length (slice_split is_feed text), length-slice_split is_feed text, count_by-le-length is_feed text)

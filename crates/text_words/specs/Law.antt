@@ -1,5 +1,5 @@
 -- What is written is read back.
-use Rattle.std.specs.Prelude.{◌≡◌, ℕ, ◌*◌, ◌<◌, ◌≤◌, ◌^◌, IsTrue, Bool, ◌&&◌, not, ◌==◌, List, [], ◌∷◌, ◌++◌, length, Some}
+use Rattle.std.specs.Prelude.{◌≡◌, ℕ, ◌+◌, ◌*◌, ◌<◌, ◌≤◌, ◌^◌, IsTrue, Bool, ◌&&◌, not, ◌==◌, List, [], ◌∷◌, ◌++◌, length, Some}
 use Rattle.std.specs.List.{list_all}
 use Rattle.std.specs.Str.Lines.{lines}
 use Rattle.tl_limits.specs.Limits.{IsRate}
@@ -29,3 +29,7 @@ NumbersReadBack = (most least low high n : ℕ) → 1 ≤ least → least ≤ mo
 
 abbrev pub TimecodesReadBack : Type 0
 TimecodesReadBack = (rate frame : ℕ) → IsRate rate → frame < 86400 * rate → timecode rate (timecode_text rate frame) ≡ Some frame
+
+-- A text has at most one line more than it has bytes.
+abbrev pub LinesAreFew : Type 0
+LinesAreFew = (text : List ℕ) → length (lines text) ≤ length text + 1

@@ -1,6 +1,6 @@
 //! What is written is read back. Each function tells it in a proof, and does nothing.
 
-ghost use Rattle.text_words.specs.Law.{LinesReadBack, NumbersReadBack, TimecodesReadBack, WordsReadBack};
+ghost use Rattle.text_words.specs.Law.{LinesAreFew, LinesReadBack, NumbersReadBack, TimecodesReadBack, WordsReadBack};
 
 /// A line is read up to its line feed, whatever follows.
 #[tactic(auto, using(crate::proofs::Splitting::lines_read_back))]
@@ -24,4 +24,10 @@ pub fn numbers_read_back()
 #[tactic(auto, using(crate::proofs::Reading::timecodes_read_back))]
 pub fn timecodes_read_back()
     ensures { TimecodesReadBack }
+{}
+
+/// A text has few lines.
+#[tactic(auto, using(crate::proofs::Lining::few_lines))]
+pub fn lines_are_few()
+    ensures { LinesAreFew }
 {}
