@@ -1,7 +1,6 @@
 -- Codes and differences, read back.
-use Rattle.std.proofs.Common.{◌≡◌, ℕ, zero, suc, ◌+◌, ◌-◌, ◌*◌, ◌/◌, ◌%◌, ◌^◌, ◌<◌, ◌≤◌, refl, sym, ap, ◌∙◌, subst, arith, inl, inr, Bool, true, false, cond, nat_eq, List, [], ◌∷◌, ◌++◌, length, drop, replicate, append_assoc, length-append, min, Some, None, Option}
+use Rattle.std.proofs.Common.{◌≡◌, ℕ, zero, suc, ◌+◌, ◌-◌, ◌*◌, ◌/◌, ◌%◌, ◌^◌, ◌<◌, ◌≤◌, refl, sym, ap, ◌∙◌, arith, inl, inr, true, false, cond, nat_eq, List, ◌∷◌, ◌++◌, length, drop, replicate, append_assoc, length-append, min}
 use Rattle.std.specs.Prelude.{ℤ, pos, negsuc, ◌+ℤ◌, ◌-ℤ◌, ◌*ℤ◌, ◌≤ℤ◌, neg_ℤ, int_lt}
-use Rattle.std.specs.Int.{int_rem_euclid}
 use Rattle.std.proofs.lemmas.Int.{ints, int_rem_euclid_is}
 use Rattle.std.proofs.lemmas.Bool.{lt-ltb, le-ltb, cases_lt}
 use Rattle.std.proofs.lemmas.Nat.{shr_split}
@@ -11,9 +10,9 @@ use Rattle.std.proofs.Math.Seq.{drop-append_seam, drop-append-add}
 use borrow.Author.Differences.{up, down}
 use Rattle.tl_base.specs.Parity.{bits_of}
 use Rattle.tl_base.specs.Arithmetic.{folded}
-use Rattle.ffv1_rice.specs.Bits.{Reading, number_at, zeros_at, skipped}
-use Rattle.ffv1_rice.specs.Code.{code, coded_at, length_at, escape_zeros, signed_of, unsigned_of}
-use Rattle.ffv1_rice.specs.State.{State, parameter, turned, updated, residual_at, residual_of, difference_at, difference_bits, state_after}
+use Rattle.ffv1_rice.specs.Bits.{number_at, zeros_at, skipped}
+use Rattle.ffv1_rice.specs.Code.{code, coded_at, length_at, signed_of, unsigned_of}
+use Rattle.ffv1_rice.specs.State.{State, parameter, turned, updated, residual_at, residual_of, difference_bits, state_after}
 use Rattle.ffv1_rice.specs.Law.{IsDifference, reading_behind, ReadsDifferences}
 use Rattle.ffv1_rice.proofs.BitLemmas.{number_at-bits_of, length-bits_of}
 use Rattle.ffv1_rice.proofs.DifferenceLemmas.{difference-in, is_residual-in}

@@ -1,17 +1,15 @@
 -- Numbers in lists of bits.
-use Rattle.std.proofs.Common.{◌≡◌, ℕ, zero, suc, ◌+◌, ◌-◌, ◌*◌, ◌/◌, ◌%◌, ◌^◌, ◌<◌, ◌≤◌, List, [], ◌∷◌, ◌++◌, length, drop, take, min, replicate, refl, sym, ap, ◌∙◌, subst, arith, inl, inr, ◌⊎◌, length-append, append_assoc}
+use Rattle.std.proofs.Common.{◌≡◌, ℕ, zero, suc, ◌+◌, ◌*◌, ◌/◌, ◌%◌, ◌^◌, ◌<◌, ◌≤◌, List, [], ◌∷◌, ◌++◌, length, drop, min, refl, sym, ap, ◌∙◌, subst, arith, inl, inr, ◌⊎◌, length-append}
 use Rattle.std.specs.Prelude.{slice_index}
 use Rattle.std.specs.Int.{bit_at}
-use Rattle.std.specs.List.{flat_map}
 use Rattle.std.proofs.lemmas.Nat.Bits.{bit_at-lt}
-use Rattle.std.proofs.lemmas.Nat.{pow-add, shr-shr, shl-shr, shr_high, shl_below, mod-pow-add, mod-mul-add, mul-add-lt, pow_pos}
+use Rattle.std.proofs.lemmas.Nat.{pow-add, shr_high, shl_below, mod-pow-add, mod-mul-add, mul-add-lt, pow_pos}
 use Rattle.std.proofs.lemmas.Bool.{cases_lt}
 use Rattle.std.proofs.lemmas.List.{drop-drop, drop_all}
-use Rattle.std.proofs.Math.Nat.{pow-suc, pow-succ', mod-eq_of_lt}
+use Rattle.std.proofs.Math.Nat.{pow-suc, mod-eq_of_lt}
 use Rattle.std.proofs.Math.Seq.{drop-nil, drop-append-add}
 use Rattle.tl_base.specs.Parity.{bits_of}
 use Rattle.byteorder.specs.Endian.{big_from, big_number}
-use Rattle.byteorder.specs.Numbers.{big_from-cons}
 use Rattle.ffv1_rice.specs.Window.{AreBits}
 use Rattle.ffv1_rice.specs.Bits.{bits_of_bytes, number_at, zeros_at}
 

@@ -1,11 +1,11 @@
 -- Codes at the start of a word.
-use Rattle.std.proofs.Common.{◌≡◌, ℕ, zero, suc, ◌+◌, ◌-◌, ◌*◌, ◌/◌, ◌%◌, ◌^◌, ◌<◌, ◌≤◌, List, [], ◌∷◌, drop, append-nil, refl, sym, ap, ◌∙◌, subst, arith, inl, inr, Bool, true, false, nat_eq, eq-eqb}
+use Rattle.std.proofs.Common.{◌≡◌, ℕ, zero, suc, ◌+◌, ◌-◌, ◌*◌, ◌/◌, ◌^◌, ◌<◌, ◌≤◌, List, [], ◌∷◌, drop, append-nil, refl, sym, ap, ◌∙◌, arith, inl, inr, false, nat_eq}
 use Rattle.std.specs.Int.Count.{count_leading_zeros, leading_unique}
 use Rattle.std.proofs.Math.Nat.{pow-suc, mod-eq_of_lt}
 use Rattle.std.proofs.lemmas.Nat.{pow_pos, shr_high}
 use Rattle.tl_base.specs.Parity.{bits_of}
 use Rattle.ffv1_rice.specs.Bits.{number_at, zeros_at}
-use Rattle.ffv1_rice.specs.Code.{coded_at, length_at, escape_zeros}
+use Rattle.ffv1_rice.specs.Code.{coded_at, length_at}
 use Rattle.ffv1_rice.specs.Window.{AreBits, IsWindow}
 use Rattle.ffv1_rice.proofs.BitLemmas.{number_at-split, number_at-lt, number_at-bits_of, are_bits-of, are_bits-drop, zeros_at-number}
 

@@ -1,5 +1,5 @@
 -- Differences that are read, and what a state is after them.
-use Rattle.std.proofs.Common.{◌≡◌, ℕ, zero, suc, ◌+◌, ◌*◌, ◌/◌, ◌%◌, ◌<◌, ◌≤◌, ◌&&◌, refl, sym, ap, ◌∙◌, subst, arith, inl, inr, Bool, true, false, cond, nat_eq, List, Some, None, Option, to_z, of_z, w32}
+use Rattle.std.proofs.Common.{◌≡◌, ℕ, ◌/◌, ◌%◌, ◌<◌, ◌≤◌, refl, ap, ◌∙◌, subst, arith, true, false, cond, nat_eq, Some, None, to_z, of_z, w32}
 use Rattle.std.specs.Prelude.{ℤ, pos, negsuc, ◌+ℤ◌, ◌-ℤ◌, ◌*ℤ◌, ◌≤ℤ◌, ◌<ℤ◌, neg_ℤ, int_lt}
 use Rattle.std.specs.Int.{int_min, int_max}
 use Rattle.std.specs.Int.Signed.{le_z}
@@ -8,7 +8,7 @@ use Rattle.std.proofs.lemmas.Bool.{lt-leb}
 use Rattle.tl_base.specs.Arithmetic.{folded}
 use Rattle.ffv1_rice.specs.Bits.{Reading, skipped}
 use Rattle.ffv1_rice.specs.Code.{code, coded_at, length_at, signed_of, unsigned_of}
-use Rattle.ffv1_rice.specs.State.{State, Difference, parameter, turned, is_residual, corrected, updated, residual_at, difference_at, residual_of, difference_bits, state_after}
+use Rattle.ffv1_rice.specs.State.{State, parameter, turned, is_residual, corrected, updated, residual_at, difference_at, residual_of, difference_bits, state_after}
 
 -- ---- correcting a state
 pub corrected-low : (s : State) (drift bias : ℤ) → s.drift ≤ℤ neg_ℤ (pos s.count) →

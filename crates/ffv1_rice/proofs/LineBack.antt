@@ -1,6 +1,6 @@
 -- Lines, read back.
-use Rattle.std.proofs.Common.{◌≡◌, ◌≢◌, ℕ, zero, suc, ◌+◌, ◌-◌, ◌*◌, ◌%◌, ◌^◌, ◌<◌, ◌≤◌, min, refl, sym, ap, ◌∙◌, subst, arith, inl, inr, Bool, true, false, cond, leb, nat_eq, List, [], ◌∷◌, ◌++◌, length, take, drop, replicate, append_assoc, append-nil, length-append, Option, Some, None}
-use Rattle.std.specs.Prelude.{ℤ, pos, negsuc, ◌+ℤ◌, ◌-ℤ◌, ◌≤ℤ◌, int_lt, option_and_then, slice_index_or, slice_set, ◌==◌}
+use Rattle.std.proofs.Common.{◌≡◌, ◌≢◌, ℕ, zero, suc, ◌+◌, ◌-◌, ◌^◌, ◌<◌, ◌≤◌, min, refl, sym, ap, ◌∙◌, subst, arith, inl, inr, Bool, true, false, cond, leb, nat_eq, List, [], ◌∷◌, ◌++◌, length, take, drop, replicate, append_assoc, append-nil, length-append, Option, Some, None}
+use Rattle.std.specs.Prelude.{ℤ, pos, negsuc, ◌+ℤ◌, ◌-ℤ◌, ◌≤ℤ◌, int_lt, slice_index_or, slice_set, ◌==◌}
 use Rattle.std.specs.List.{AllByRecursion}
 use Rattle.std.proofs.lemmas.Int.{ints}
 use Rattle.std.proofs.lemmas.Bool.{le-leb, lt-leb, cases_lt}
@@ -11,13 +11,13 @@ use Rattle.tl_base.specs.Parity.{bits_of}
 use Rattle.ffv1_rice.specs.declared.runs.Mode.{Mode}
 use Rattle.ffv1_rice.specs.declared.runs.Mode.TheVariants.{Outside, Running, Ending}
 use Rattle.ffv1_rice.specs.Bits.{Reading, number_at, skipped}
-use Rattle.ffv1_rice.specs.State.{State, fresh, difference_at, difference_bits, state_after}
-use Rattle.ffv1_rice.specs.Runs.{Run, Source, Coding, line_run, source, coding, run_bits, whole_run, at_sample, whole, broken, after_run, next_step, difference_by, raised, sample_at, in_front, differences_at}
-use Rattle.ffv1_rice.specs.Lines.{Fitting, Written, one_more, fitting, lowered, difference_put, broken_put, end_put, pending_at, put_by, sample_put, ended, line_put}
-use Rattle.ffv1_rice.specs.Law.{IsDifference, ReadsLines, reading_behind}
+use Rattle.ffv1_rice.specs.State.{State, fresh, difference_bits, state_after}
+use Rattle.ffv1_rice.specs.Runs.{Run, Source, Coding, line_run, source, coding, run_bits, whole_run, at_sample, whole, broken, after_run, next_step, difference_by, raised, sample_at, differences_at}
+use Rattle.ffv1_rice.specs.Lines.{Fitting, Written, one_more, fitting, lowered, difference_put, broken_put, end_put, sample_put, line_put}
+use Rattle.ffv1_rice.specs.Law.{IsDifference, ReadsLines}
 use Rattle.ffv1_rice.proofs.BitLemmas.{number_at-bits_of, length-bits_of}
 use Rattle.ffv1_rice.proofs.FitLemmas.{whole_run-some, fitting-more, fitting-none, none_fits}
-use Rattle.ffv1_rice.proofs.LineLemmas.{behind, InRun, coding_with, run_with, differences_at-append, differences_at-cons, zeros-run, zeros-arrived}
+use Rattle.ffv1_rice.proofs.LineLemmas.{behind, coding_with, run_with, differences_at-append, differences_at-cons, zeros-run, zeros-arrived}
 use Rattle.ffv1_rice.proofs.Back.{reads_differences}
 
 -- ---- readings: so many bits were taken, counted up to a most

@@ -1,5 +1,5 @@
 -- Samples of a line.
-use Rattle.std.proofs.Common.{◌≡◌, ◌≢◌, ℕ, zero, suc, ◌+◌, ◌-◌, ◌<◌, ◌≤◌, min, refl, sym, ap, ◌∙◌, subst, arith, inl, inr, Bool, true, false, nat_eq, List, [], ◌∷◌, ◌++◌, length, replicate, Option, Some, None}
+use Rattle.std.proofs.Common.{◌≡◌, ℕ, zero, suc, ◌-◌, ◌≤◌, min, refl, ap, ◌∙◌, arith, Bool, List, [], ◌∷◌, ◌++◌, length, replicate, Option, Some, None}
 use Rattle.std.specs.Prelude.{ℤ, pos, ◌==◌, option_and_then}
 use Rattle.ffv1_rice.specs.declared.runs.Mode.{Mode}
 use Rattle.ffv1_rice.specs.declared.runs.Mode.TheVariants.{Outside, Running, Ending}
@@ -7,7 +7,7 @@ use Rattle.ffv1_rice.specs.declared.runs.Step.{Step}
 use Rattle.ffv1_rice.specs.declared.runs.Step.TheVariants.{Zeros, Difference, AfterRun}
 use Rattle.ffv1_rice.specs.Bits.{Reading}
 use Rattle.ffv1_rice.specs.State.{State}
-use Rattle.ffv1_rice.specs.Runs.{Run, Source, Coding, source, coding, at_sample, entered, refilled, zeros, after_run, stepped, next_step, difference_by, raised, sample_by, sample_at, in_front, differences_at}
+use Rattle.ffv1_rice.specs.Runs.{Run, Source, Coding, source, coding, at_sample, zeros, after_run, stepped, next_step, difference_by, raised, sample_at, in_front, differences_at}
 
 -- ---- one sample after another
 -- differences that were read, in front of others

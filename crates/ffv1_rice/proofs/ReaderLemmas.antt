@@ -1,5 +1,5 @@
 -- What a reader of bits has left.
-use Rattle.std.proofs.Common.{◌≡◌, ℕ, ◌+◌, ◌*◌, ◌^◌, ◌<◌, ◌≤◌, List, length, drop, min, refl, ap, ◌∙◌, arith}
+use Rattle.std.proofs.Common.{◌≡◌, ℕ, ◌+◌, ◌^◌, ◌<◌, List, length, drop, min, ap, arith}
 use Rattle.ffv1_rice.specs.Bits.{Reading, bits_of_bytes, skipped}
 use Rattle.ffv1_rice.proofs.BitLemmas.{drop-position, length-bits_of_bytes}
 

@@ -1,5 +1,5 @@
 -- Runs of a line.
-use Rattle.std.proofs.Common.{◌≡◌, ℕ, zero, suc, ◌+◌, ◌-◌, ◌*◌, ◌^◌, ◌<◌, ◌≤◌, ◌&&◌, refl, sym, ap, ◌∙◌, subst, arith, inl, inr, Bool, true, false, leb, List, [], ◌∷◌, lit≤}
+use Rattle.std.proofs.Common.{◌≡◌, ℕ, zero, suc, ◌^◌, ◌≤◌, ◌&&◌, refl, arith, Bool, true, false, leb, List, [], ◌∷◌}
 use Rattle.std.specs.Prelude.{slice_index}
 use Rattle.std.specs.List.{list_all}
 use Rattle.std.proofs.lemmas.Bool.{leb-true}

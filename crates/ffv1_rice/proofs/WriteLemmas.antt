@@ -1,9 +1,8 @@
 -- Samples of a line, written.
-use Rattle.std.proofs.Common.{◌≡◌, ◌≢◌, ℕ, zero, suc, ◌+◌, ◌-◌, ◌<◌, ◌≤◌, refl, sym, ap, ◌∙◌, subst, arith, List, [], ◌∷◌, ◌++◌, length, drop, get_or, set, Option, Some, None, drop-cons, add-one}
+use Rattle.std.proofs.Common.{◌≡◌, ◌≢◌, ℕ, zero, suc, ◌+◌, ◌<◌, refl, sym, ap, ◌∙◌, List, ◌++◌, length, drop, get_or, set, Option, Some, None, drop-cons, add-one}
 use Rattle.std.specs.Prelude.{ℤ, pos, negsuc}
 use Rattle.ffv1_rice.specs.State.{State, fresh, difference_bits, state_after}
 use Rattle.ffv1_rice.specs.Lines.{Written, difference_put, broken_put, lowered, pending_at, put_by, sample_put, line_put}
-use Rattle.ffv1_rice.specs.Pending.{written}
 
 put_by-broken : (count context : ℕ) (d : ℤ) (w : Written) → d ≢ pos 0 → put_by (Some count) context d w ≡ difference_put context (lowered d) (broken_put count w)
 put_by-broken count context (pos zero) w h = absurd (h refl)

@@ -1,5 +1,5 @@
 -- Codes of Golomb and Rice with an escape. RFC 9043 sections 3.8.2.1.
-use Rattle.std.specs.Prelude.{ℕ, ◌+◌, ◌-◌, ◌*◌, ◌/◌, ◌%◌, ◌^◌, ◌==◌, ◌<◌, nat_lt, if◌then◌else◌, ℤ, pos, negsuc, List, [], ◌∷◌, ◌++◌, drop, replicate}
+use Rattle.std.specs.Prelude.{ℕ, ◌+◌, ◌-◌, ◌*◌, ◌/◌, ◌%◌, ◌^◌, ◌==◌, nat_lt, if◌then◌else◌, ℤ, pos, negsuc, List, ◌∷◌, ◌++◌, drop, replicate}
 use Rattle.tl_base.specs.Parity.{bits_of}
 use Rattle.ffv1_rice.specs.Bits.{number_at, zeros_at}
 

@@ -1,5 +1,5 @@
 -- What was written is read back.
-use Rattle.std.specs.Prelude.{◌≡◌, ℕ, ◌+◌, ◌<◌, ◌≤◌, ◌^◌, min, ℤ, pos, negsuc, ◌≤ℤ◌, ◌==◌, List, ◌∷◌, ◌++◌, length, replicate, Some, None}
+use Rattle.std.specs.Prelude.{◌≡◌, ℕ, ◌+◌, ◌≤◌, ◌^◌, min, ℤ, pos, negsuc, ◌≤ℤ◌, ◌==◌, List, ◌∷◌, ◌++◌, length, replicate, Some, None}
 use Rattle.std.specs.List.{AllByRecursion}
 use Rattle.ffv1_rice.specs.declared.runs.Step.TheVariants.{Zeros, Difference, AfterRun}
 use Rattle.ffv1_rice.specs.Bits.{Reading}

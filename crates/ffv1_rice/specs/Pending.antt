@@ -2,7 +2,7 @@
 use Rattle.std.specs.Prelude.{ℕ, ◌≤◌, List, Option, Some, None}
 use Rattle.ffv1_rice.specs.declared.lines.Pending.{Pending}
 use Rattle.ffv1_rice.specs.State.{State}
-use Rattle.ffv1_rice.specs.Lines.{Written, Fitting}
+use Rattle.ffv1_rice.specs.Lines.{Written}
 
 abbrev pub written : Pending → List State → List ℕ → Written
 written p states bits = record { pending = p.count; index = p.index; states = states; bits = bits }

@@ -1,7 +1,6 @@
 -- What the fields of a run stand for.
-use Rattle.std.specs.Prelude.{◌≡◌, ℕ, ◌≤◌, ◌^◌}
+use Rattle.std.specs.Prelude.{◌≤◌, ◌^◌}
 use Rattle.ffv1_rice.specs.declared.runs.Place.{Place}
-use Rattle.ffv1_rice.specs.declared.runs.Mode.TheVariants.{Outside}
 use Rattle.ffv1_rice.specs.Runs.{Run}
 
 abbrev pub run_of : Place → Run

@@ -1,5 +1,5 @@
 -- Runs of a line. RFC 9043 section 3.8.2.4. A line has a context and a difference for each sample.
-use Rattle.std.specs.Prelude.{◌≡◌, ℕ, zero, suc, ◌+◌, ◌-◌, ◌^◌, ◌<◌, ◌≤◌, ◌==◌, nat_le, min, Bool, true, false, if◌then◌else◌, ℤ, pos, ◌+ℤ◌, int_lt, List, [], ◌∷◌, slice_index, slice_index_or, slice_set, Option, Some, None, option_and_then}
+use Rattle.std.specs.Prelude.{ℕ, zero, suc, ◌+◌, ◌-◌, ◌^◌, ◌<◌, ◌≤◌, ◌==◌, nat_le, min, Bool, true, false, if◌then◌else◌, ℤ, pos, ◌+ℤ◌, int_lt, List, [], ◌∷◌, slice_index, slice_index_or, slice_set, Option, Some, None, option_and_then}
 use Rattle.ffv1_rice.specs.declared.runs.Mode.{Mode}
 use Rattle.ffv1_rice.specs.declared.runs.Mode.TheVariants.{Outside, Running, Ending}
 use Rattle.ffv1_rice.specs.declared.runs.Step.{Step}

@@ -1,4 +1,4 @@
-use Rattle.std.proofs.Common.{◌≡◌, ℕ, ◌-◌, ◌+◌, ◌/◌, ◌^◌, ◌<◌, ◌∙◌, ap, sym, subst, arith}
+use Rattle.std.proofs.Common.{◌≡◌, ℕ, ◌-◌, ◌+◌, ◌/◌, ◌^◌, ◌<◌, ◌∙◌, ap, subst, arith}
 use Rattle.std.proofs.lemmas.Nat.{shr-shr, shr_below}
 use Rattle.ffv1_rice.proofs.code.highest.Goals as goal
 

@@ -1,4 +1,4 @@
-use Rattle.std.proofs.Common.{◌≡◌, ℕ, List, ◌+◌, ◌-◌, ◌*◌, ◌/◌, ◌%◌, ◌^◌, ◌<◌, ◌≤◌, ◌++◌, ◌∙◌, ap, sym, subst, arith}
+use Rattle.std.proofs.Common.{◌≡◌, ℕ, List, ◌+◌, ◌-◌, ◌/◌, ◌%◌, ◌^◌, ◌<◌, ◌≤◌, ◌++◌, ◌∙◌, ap, sym, subst}
 use Rattle.tl_base.specs.Parity.{bits_of}
 use Rattle.ffv1_rice.specs.Code.{code}
 use Rattle.ffv1_rice.proofs.PutLemmas.{prefix-code, escape-code, prefix-fits}

@@ -1,8 +1,6 @@
-use Rattle.std.proofs.Common.{◌≡◌, ℕ, ◌+◌, ◌≤◌, ◌<◌, ap, sym, ◌∙◌, refl, arith, to_z, of_z, w32, get_or}
-use Rattle.std.specs.Prelude.{ℤ, pos}
+use Rattle.std.proofs.Common.{◌≡◌, ◌≤◌, ap, sym, refl, arith, of_z, w32, get_or}
 use Rattle.std.proofs.lemmas.List.{get_or_default}
-use Rattle.ffv1_rice.specs.State.{State, fresh, difference_bits, state_after}
-use Rattle.ffv1_rice.specs.Lines.{lowered}
+use Rattle.ffv1_rice.specs.State.{fresh}
 use Rattle.ffv1_rice.proofs.DifferenceLemmas.{number-fits}
 use Rattle.ffv1_rice.proofs.WriteLemmas.{sample_put-broken}
 use Rattle.ffv1_rice.proofs.lines.put_sample.Goals as goal

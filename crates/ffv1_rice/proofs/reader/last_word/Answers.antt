@@ -1,6 +1,6 @@
-use Rattle.std.proofs.Common.{◌≡◌, ℕ, ◌+◌, ◌*◌, drop, arith}
+use Rattle.std.proofs.Common.{◌*◌, drop, arith}
 use Rattle.std.proofs.Math.Nat.{pow-le-pow_right}
-use Rattle.ffv1_rice.specs.Bits.{bits_of_bytes, number_at}
+use Rattle.ffv1_rice.specs.Bits.{bits_of_bytes}
 use Rattle.ffv1_rice.proofs.BitLemmas.{number_at-lt, number_at-more, are_bits-drop, are_bits-bytes}
 use Rattle.ffv1_rice.proofs.reader.last_word.Goals as goal
 

@@ -1,4 +1,4 @@
-use Rattle.std.proofs.Common.{◌≡◌, ℕ, List, ◌∙◌, ap, sym, drop, take, length, ◌-◌, arith}
+use Rattle.std.proofs.Common.{ℕ, List, ◌∙◌, ap, sym, drop, length, ◌-◌, arith}
 use Rattle.std.proofs.lemmas.List.{take_all, length-drop}
 use Rattle.ffv1_rice.specs.Bits.{bits_of_bytes, number_at}
 use Rattle.ffv1_rice.proofs.BitLemmas.{drop-bits_of_bytes}

@@ -1,4 +1,4 @@
-use Rattle.std.proofs.Common.{◌≡◌, ℕ, ◌≤◌, ◌^◌, ◌∙◌, arith}
+use Rattle.std.proofs.Common.{arith}
 use Rattle.ffv1_rice.proofs.RunLemmas.{power-few}
 use Rattle.ffv1_rice.proofs.runs.refill.Goals as goal
 

@@ -1,5 +1,5 @@
-use Rattle.std.proofs.Common.{◌≡◌, ℕ, ◌≤◌, ◌∙◌, ap, sym, subst, arith}
-use Rattle.ffv1_rice.specs.Runs.{run_bits, log2_run}
+use Rattle.std.proofs.Common.{ℕ, ◌≤◌, sym, subst}
+use Rattle.ffv1_rice.specs.Runs.{run_bits}
 use Rattle.ffv1_rice.proofs.RunLemmas.{run_bits-few}
 use Rattle.ffv1_rice.proofs.runs.run_bits.Goals as goal
 

@@ -1,8 +1,8 @@
-use Rattle.std.proofs.Common.{◌≡◌, ℕ, ◌-◌, ◌+◌, ◌*◌, ◌^◌, ◌<◌, ◌≤◌, ◌∙◌, ap, sym, subst, arith}
+use Rattle.std.proofs.Common.{◌≡◌, ℕ, ◌-◌, ◌+◌, ◌*◌, ◌^◌, ◌<◌, ◌≤◌, sym, subst, arith}
 use Rattle.std.specs.Int.Count.{count_leading_zeros}
 use Rattle.std.proofs.Math.Nat.{pow-le-pow_right}
 use Rattle.std.proofs.lemmas.Nat.{mul-le}
-use Rattle.ffv1_rice.specs.State.{State, IsState, IsParameter, parameter}
+use Rattle.ffv1_rice.specs.State.{State, IsState, IsParameter}
 use Rattle.ffv1_rice.specs.Tally.{state_of}
 use Rattle.ffv1_rice.proofs.StateLemmas.{next_shift, this_shift, shift-small, parameter-unique, parameter-small}
 use Rattle.ffv1_rice.proofs.state.parameter_of.Goals as goal

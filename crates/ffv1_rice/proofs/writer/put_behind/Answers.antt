@@ -1,4 +1,4 @@
-use Rattle.std.proofs.Common.{◌≡◌, ℕ, List, ◌+◌, ◌-◌, ◌*◌, ◌%◌, ◌^◌, ◌++◌, ◌∙◌, ap, arith}
+use Rattle.std.proofs.Common.{◌+◌, ◌-◌, ◌*◌, ◌%◌, ◌^◌, ◌∙◌, ap, arith}
 use Rattle.tl_base.specs.Parity.{bits_of}
 use Rattle.ffv1_rice.proofs.PutLemmas.{put-fits, bits_of-put}
 use Rattle.ffv1_rice.proofs.writer.put_behind.Goals as goal

@@ -1,4 +1,4 @@
-use Rattle.std.proofs.Common.{◌≡◌, ℕ, ◌^◌, ◌∙◌, ap, sym, nat_eq, arith}
+use Rattle.std.proofs.Common.{◌∙◌, ap, nat_eq, arith}
 use Rattle.ffv1_rice.specs.Bits.{number_at, skipped}
 use Rattle.ffv1_rice.proofs.ReaderLemmas.{reading_at, skipped-at}
 use Rattle.ffv1_rice.proofs.reader.BitReader.bit.Goals as goal

@@ -1,6 +1,5 @@
-use Rattle.std.proofs.Common.{◌≡◌, ℕ, List, ap, sym, ◌∙◌, arith, to_z, of_z, w32, Some, None}
-use Rattle.std.specs.Prelude.{ℤ, pos, negsuc, ◌+ℤ◌, ◌-ℤ◌, ◌≤ℤ◌, ◌<ℤ◌, neg_ℤ}
-use Rattle.std.proofs.lemmas.Int.{ints}
+use Rattle.std.proofs.Common.{◌≡◌, ℕ, List, ap, sym, ◌∙◌, to_z, of_z, w32}
+use Rattle.std.specs.Prelude.{ℤ}
 use Rattle.ffv1_rice.specs.Bits.{skipped}
 use Rattle.ffv1_rice.specs.Tally.{state_of}
 use Rattle.ffv1_rice.specs.Code.{coded_at, length_at, signed_of}

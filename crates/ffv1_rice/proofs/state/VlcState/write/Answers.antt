@@ -1,8 +1,6 @@
-use Rattle.std.proofs.Common.{◌≡◌, ℕ, List, ◌++◌, ap, sym, ◌∙◌, arith, to_z, of_z, w32}
-use Rattle.std.specs.Prelude.{ℤ, pos, negsuc, ◌+ℤ◌, ◌-ℤ◌, ◌≤ℤ◌}
-use Rattle.ffv1_rice.specs.Code.{code, unsigned_of}
+use Rattle.std.proofs.Common.{ℕ, List, ◌++◌, ap, ◌∙◌}
 use Rattle.ffv1_rice.specs.Tally.{state_of}
-use Rattle.ffv1_rice.specs.State.{State, parameter, turned, difference_bits, state_after}
+use Rattle.ffv1_rice.specs.State.{State, difference_bits, state_after}
 use Rattle.ffv1_rice.proofs.DifferenceLemmas.{number-fits, gap_fits, written-bits, written-state}
 use Rattle.ffv1_rice.proofs.state.VlcState.write.Goals as goal
 

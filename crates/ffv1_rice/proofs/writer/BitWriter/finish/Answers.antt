@@ -1,8 +1,7 @@
-use Rattle.std.proofs.Common.{◌≡◌, ℕ, List, ◌+◌, ◌-◌, ◌*◌, ◌/◌, ◌%◌, ◌^◌, ◌<◌, ◌++◌, ◌∙◌, ap, sym, subst, take, refl, arith}
+use Rattle.std.proofs.Common.{◌≡◌, ◌+◌, ◌-◌, ◌*◌, ◌/◌, ◌%◌, ◌^◌, ◌++◌, ◌∙◌, ap, take, refl, arith}
 use Rattle.std.specs.Int.{bytes_high_first}
 use Rattle.tl_base.specs.Parity.{bits_of}
 use Rattle.ffv1_rice.specs.Bits.{bits_of_bytes, padded}
-use Rattle.ffv1_rice.specs.Writer.{bits_written}
 use Rattle.ffv1_rice.proofs.PutLemmas.{last_bytes, no_padding}
 use Rattle.ffv1_rice.proofs.writer.BitWriter.finish.Goals as goal
 
