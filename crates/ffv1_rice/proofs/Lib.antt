@@ -9,4 +9,5 @@ pub mod LineLemmas
 pub mod FitLemmas
 pub mod WriteLemmas
 pub mod Back
+pub mod RunBack
 pub mod LineBack

@@ -31,7 +31,8 @@ pub record IsReadBack (contexts : List ℕ) (differences : List ℤ) (start end 
   pub written : end.bits ≡ start.bits ++ bits
   pub index : run.index ≡ end.index
   pub read : (rest : List ℕ) (taken : ℕ) → taken ≤ 2 ^ 63
-      → differences_at (length contexts) contexts (record { run = line_run start.index; states = start.states; reading = record { bits = bits ++ rest; taken = taken } })
+      → let reading : Reading = record { bits = bits ++ rest; taken = taken } in
+      differences_at (length contexts) contexts (record { run = line_run start.index; states = start.states; reading = reading })
       ≡ Some (differences, record { run = run; states = end.states; reading = reading_behind bits rest taken })
 
 abbrev pub ReadsLines : Type 0
@@ -46,6 +47,8 @@ pub record StepsAreSamples : Type 0 where
       → next_step left left (context == 0) s ≡ (Zeros n, s') → length (context ∷ contexts) ≡ n
       → differences_at left (context ∷ contexts) (coding s states) ≡ Some (replicate n (pos 0), coding s' states)
   pub difference : (left context : ℕ) (s s' : Source) (states : List State)
-      → next_step left left (context == 0) s ≡ (Difference, s') → sample_at left context (coding s states) ≡ difference_by (λ d. d) context s' states
+      → next_step left left (context == 0) s ≡ (Difference, s')
+      → sample_at left context (coding s states) ≡ difference_by (λ d. d) context s' states
   pub after_run : (left context : ℕ) (s s' : Source) (states : List State)
-      → next_step left left (context == 0) s ≡ (AfterRun, s') → sample_at left context (coding s states) ≡ difference_by raised context s' states
+      → next_step left left (context == 0) s ≡ (AfterRun, s')
+      → sample_at left context (coding s states) ≡ difference_by raised context s' states

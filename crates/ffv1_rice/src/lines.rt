@@ -59,7 +59,9 @@ impl RunWriter {
         requires same { length differences.now ≡ length contexts.now }
         requires short { length contexts.now < 2 ^ 24 }
         requires contexts { (k : ℕ) → k < length contexts.now → slice_index contexts.now k < length states.old }
-        ensures { OnOk result (line_put contexts.now differences.now (record { pending = None; index = self.old; states = states.old; bits = bits.old }) ≡ record { pending = None; index = self.new; states = states.new; bits = bits.new }) }
+        ensures { OnOk result
+            (line_put contexts.now differences.now (record { pending = None; index = self.old; states = states.old; bits = bits.old })
+            ≡ record { pending = None; index = self.new; states = states.new; bits = bits.new }) }
     {
         let mut run = Pending {
             count: None,
@@ -189,7 +191,9 @@ fn whole_run(index: u32) -> u32
 fn break_run(bits: &mut BitWriter, count: u32, index: u32) -> Result<u32, AllocError>
     requires short { count < 2 ^ 24 }
     requires index { index ≤ 40 }
-    ensures put { IfOk result (λ after. (states : List State) → broken_put count (record { pending = Some count; index = index; states = states; bits = bits.old }) ≡ record { pending = None; index = after; states = states; bits = bits.new }) }
+    ensures put { IfOk result (λ after. (states : List State)
+        → broken_put count (record { pending = Some count; index = index; states = states; bits = bits.old })
+        ≡ record { pending = None; index = after; states = states; bits = bits.new }) }
     ensures in_table { IfOk result (λ after. after ≤ 40) }
 {
     let rest = put_whole_runs(bits, count, index)?;
@@ -203,7 +207,8 @@ fn break_run(bits: &mut BitWriter, count: u32, index: u32) -> Result<u32, AllocE
 fn end_run(run: Pending, bits: &mut BitWriter) -> Result<u32, AllocError>
     requires index { run.index ≤ 40 }
     requires short { IsAtMost (2 ^ 24 - 1) run.count }
-    ensures put { IfOk result (λ after. (states : List State) → ended run.count (written run states bits.old) ≡ record { pending = None; index = after; states = states; bits = bits.new }) }
+    ensures put { IfOk result (λ after. (states : List State)
+        → ended run.count (written run states bits.old) ≡ record { pending = None; index = after; states = states; bits = bits.new }) }
     ensures in_table { IfOk result (λ after. after ≤ 40) }
 {
     match run.count {

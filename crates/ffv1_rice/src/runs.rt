@@ -179,7 +179,8 @@ fn enter(mode: Mode, is_zero: bool) -> Mode
 fn refill(at: Place, bits: &mut BitReader, left: u32) -> Place
     requires place { IsPlace at }
     requires short { left < 2 ^ 24 }
-    ensures source { (if number_at 1 bits.old.bits == 1 then whole left (source (run_of at) bits.old) else broken (source (run_of at) bits.old)) ≡ source (run_of result) bits.new }
+    ensures source { let s = source (run_of at) bits.old in
+        (if number_at 1 bits.old.bits == 1 then whole left s else broken s) ≡ source (run_of result) bits.new }
     ensures place { IsPlace result }
 {
     let length = run_bits(at.index);
