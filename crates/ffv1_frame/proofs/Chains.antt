@@ -1,7 +1,7 @@
 -- The slices that end bytes.
-use Rattle.std.proofs.Common.{◌≡◌, ℕ, ◌+◌, ◌-◌, ◌<◌, ◌≤◌, Bool, true, false, List, [], ◌∷◌, ◌++◌, length, take, drop, map, reverse, get_or, eqb, refl, sym, ◌∙◌, ap, subst, arith, append_assoc}
+use Rattle.std.proofs.Common.{◌≡◌, ℕ, ◌+◌, ◌-◌, ◌<◌, ◌≤◌, Bool, true, List, [], ◌∷◌, ◌++◌, length, take, drop, map, reverse, get_or, eqb, refl, sym, ◌∙◌, ap, subst, arith, append_assoc}
 use Rattle.std.specs.Prelude.{slice_range, All}
-use Rattle.std.proofs.lemmas.List.{length-append, length-take-le, length-drop, take_at, drop_at, drop-drop, drop-take, take-append-drop, append-nil, take-take, reverse-append, reverse-reverse, map-append, length-reverse, get_or-reverse, get_or-map, take_more, take_all, length-map}
+use Rattle.std.proofs.lemmas.List.{length-append, length-take-le, length-drop, take_at, drop_at, drop-drop, drop-take, append-nil, reverse-append, reverse-reverse, map-append, length-reverse, get_or-reverse, get_or-map, take_more, take_all, length-map}
 use Rattle.std.proofs.lemmas.List.Elements.{All-from_get_or, All-get_or, All-push}
 use Rattle.std.proofs.lemmas.Bool.{eqb-true, eq-eqb}
 use Rattle.tl_base.specs.Parity.{parity}

@@ -1,5 +1,5 @@
 use Rattle.std.proofs.lemmas.List.{get_or_default}
-use Rattle.ffv1_frame.proofs.Chains.{parities-next, parities-done, wrong-at}
+use Rattle.ffv1_frame.proofs.Chains.{parities-next, parities-done}
 use Rattle.ffv1_frame.proofs.chain.first_wrong.Goals as goal
 
 pub loop-i-preserved : goal.loop-i-preserved

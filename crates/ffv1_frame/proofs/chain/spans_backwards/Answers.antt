@@ -1,9 +1,8 @@
-use Rattle.std.proofs.Common.{◌≡◌, [], ◌∷◌, ◌++◌, length, map, take, refl, sym, ◌∙◌, ap, subst, arith}
-use Rattle.std.specs.Prelude.{All}
+use Rattle.std.proofs.Common.{length, map, take, ap, arith}
 use Rattle.std.proofs.lemmas.List.{take_all, length-take-le, map_push}
 use Rattle.std.proofs.lemmas.List.Elements.{All-push}
 use Rattle.ffv1_frame.specs.Packet.{slice_at, IsSpan}
-use Rattle.ffv1_frame.proofs.Chains.{AreFound, none_found, one_found, all_found, not_found}
+use Rattle.ffv1_frame.proofs.Chains.{none_found, one_found, all_found, not_found}
 use Rattle.ffv1_frame.proofs.chain.spans_backwards.Goals as goal
 
 pub loop-end-init : goal.loop-end-init

@@ -1,4 +1,4 @@
-use Rattle.std.proofs.Common.{map, refl}
+use Rattle.std.proofs.Common.{map}
 use Rattle.std.specs.Prelude.{slice_index_or}
 use Rattle.ffv1_frame.specs.Packet.{slice_at, no_slice}
 use Rattle.ffv1_frame.proofs.Frames.{header_gives}

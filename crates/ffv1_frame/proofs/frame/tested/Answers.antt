@@ -1,4 +1,4 @@
-use Rattle.std.proofs.Common.{◌≡◌, ◌*◌, Bool, List, ℕ, length, map, reverse, sym, ◌∙◌, subst, arith}
+use Rattle.std.proofs.Common.{◌*◌, Bool, List, map, reverse, sym, subst, arith}
 use Rattle.std.proofs.lemmas.Result.{err_from_is_err_and}
 use Rattle.std.proofs.lemmas.List.{length-map}
 use Rattle.ffv1_slice.specs.declared.header.Header.{Header}
