@@ -16,7 +16,8 @@ quantized table a b = slice_index_or table ((256 + a - b) % 256) (pos 0)
 abbrev pub context : List (List ℤ) → Near → ℤ
 context tables n =
     let table : ℕ → List ℤ = λ i. slice_index_or tables i [] in
-    quantized (table 0) n.l n.tl +ℤ quantized (table 1) n.tl n.t +ℤ quantized (table 2) n.t n.tr +ℤ quantized (table 3) n.ll n.l +ℤ quantized (table 4) n.tt n.t
+    quantized (table 0) n.l n.tl +ℤ quantized (table 1) n.tl n.t +ℤ quantized (table 2) n.t n.tr
+    +ℤ quantized (table 3) n.ll n.l +ℤ quantized (table 4) n.tt n.t
 
 abbrev pub is_negative : ℤ → Bool
 is_negative (pos n) = false
