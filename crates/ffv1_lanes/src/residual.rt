@@ -8,7 +8,8 @@ use tl_base::fold8;
 pub fn residual_row(sample: &[u8], predicted: &[u8], into: &mut [i8])
     requires predicted { length predicted.now ≡ length sample.now }
     requires room { length into.old ≡ length sample.now }
-    ensures { EachIndex into.new (λ x. slice_index_or into.new x (pos 0) ≡ residual (slice_index sample.now x) (slice_index predicted.now x)) }
+    ensures { EachIndex into.new (λ x. slice_index_or into.new x (pos 0)
+        ≡ residual (slice_index sample.now x) (slice_index predicted.now x)) }
 {
     for x in 0..into.len() {
         into[x] = residual(sample[x], predicted[x]);

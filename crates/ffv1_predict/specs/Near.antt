@@ -1,5 +1,5 @@
 -- The prediction of a sample and its context. RFC 9043 sections 3.2 to 3.5.
-use Rattle.std.specs.Prelude.{◌≡◌, ℕ, ◌+◌, ◌-◌, ◌%◌, List, [], slice_index_or, Bool, true, false, if◌then◌else◌, ℤ, pos, negsuc, neg_ℤ, ◌+ℤ◌, ◌-ℤ◌}
+use Rattle.std.specs.Prelude.{◌≡◌, ℕ, ◌+◌, ◌-◌, ◌%◌, ◌<◌, List, [], slice_index_or, Bool, true, false, if◌then◌else◌, ℤ, pos, negsuc, neg_ℤ, ◌+ℤ◌, ◌-ℤ◌}
 use Rattle.std.specs.Int.{int_rem_euclid}
 use Rattle.tl_base.specs.Arithmetic.{median, folded}
 use Rattle.ffv1_predict.specs.declared.near.Near.{Near}
@@ -16,7 +16,8 @@ quantized table a b = slice_index_or table ((256 + a - b) % 256) (pos 0)
 abbrev pub context : List (List ℤ) → Near → ℤ
 context tables n =
     let table : ℕ → List ℤ = λ i. slice_index_or tables i [] in
-    quantized (table 0) n.l n.tl +ℤ quantized (table 1) n.tl n.t +ℤ quantized (table 2) n.t n.tr +ℤ quantized (table 3) n.ll n.l +ℤ quantized (table 4) n.tt n.t
+    quantized (table 0) n.l n.tl +ℤ quantized (table 1) n.tl n.t +ℤ quantized (table 2) n.t n.tr
+    +ℤ quantized (table 3) n.ll n.l +ℤ quantized (table 4) n.tt n.t
 
 abbrev pub is_negative : ℤ → Bool
 is_negative (pos n) = false
@@ -33,3 +34,12 @@ IsRestored context n difference sample = pos sample ≡ int_rem_euclid (predicte
 -- the difference that is coded for a sample
 abbrev pub coded : ℤ → Near → ℕ → ℤ
 coded context n sample = folded (turned context (pos sample -ℤ predicted n))
+
+-- the neighbours are samples of 8 bits
+pub record IsNear (n : Near) : Type 0 where
+  pub tt : n.tt < 256
+  pub tl : n.tl < 256
+  pub t : n.t < 256
+  pub tr : n.tr < 256
+  pub ll : n.ll < 256
+  pub l : n.l < 256

@@ -1,4 +1,4 @@
--- Where the cells of a slice lie in the planes. RFC 9043 section 4.6.
+-- Where the cells of a slice lie in the planes. RFC 9043 sections 4.7 and 4.8.
 use Rattle.std.specs.Prelude.{ℕ, ◌+◌, ◌-◌, ◌*◌, ◌/◌, ◌≤◌, Some, None}
 use Rattle.pic_planes.specs.declared.shape.Chroma.{Chroma}
 use Rattle.pic_planes.specs.declared.shape.Chroma.TheVariants.{Grey, Shifts}

@@ -31,7 +31,7 @@ pub record TooLongInNumbers (count : ℕ) (old : Source) (reading : Reading) : T
   pub too_long : symbol_at mid false ≡ (None, new)
   pub place : new.reading ≡ reading
 
--- a number of the header by its place
+-- The cells lie in the grid, or pass it in a direction.
 abbrev pub IsWithinGrid : Grid → List ℕ → Type 0
 IsWithinGrid grid numbers =
     (slice_index numbers 0 + slice_index numbers 2 < grid.columns) × (slice_index numbers 1 + slice_index numbers 3 < grid.rows)
@@ -40,6 +40,7 @@ abbrev pub PassesGrid : Grid → List ℕ → Type 0
 PassesGrid grid numbers =
     (grid.columns ≤ slice_index numbers 0 + slice_index numbers 2) ⊎ (grid.rows ≤ slice_index numbers 1 + slice_index numbers 3)
 
+-- An index isn't below the number of sets.
 abbrev pub PassesSets : Grid → List ℕ → Type 0
 PassesSets grid numbers = (grid.table_sets ≤ slice_index numbers 4) ⊎ (grid.table_sets ≤ slice_index numbers 5)
 
@@ -60,7 +61,8 @@ pub record IsHeader (grid : Grid) (numbers : List ℕ) (h : Header) : Type 0 whe
 abbrev pub Gives : Grid → Source → Reading → Result Header HeaderFault → Type 0
 Gives grid old reading (Ok h) = (numbers : List ℕ) × (length numbers ≡ 9) × ReadsNumbers numbers old reading × IsHeader grid numbers h
 Gives grid old reading (Err BadHeader) =
-    TooLongInNumbers 9 old reading ⊎ ((numbers : List ℕ) × (length numbers ≡ 9) × ReadsNumbers numbers old reading × PassesGrid grid numbers)
+    TooLongInNumbers 9 old reading
+    ⊎ ((numbers : List ℕ) × (length numbers ≡ 9) × ReadsNumbers numbers old reading × PassesGrid grid numbers)
 Gives grid old reading (Err TableIndex) =
     (numbers : List ℕ) × (length numbers ≡ 9) × ReadsNumbers numbers old reading × IsWithinGrid grid numbers × PassesSets grid numbers
 

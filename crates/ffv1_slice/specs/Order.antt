@@ -1,4 +1,4 @@
--- Coding order: the rows of a plane from the top, the samples of a row from the left. RFC 9043 sections 4.6 and 4.7.
+-- Coding order: the rows of a plane from the top, the samples of a row from the left. RFC 9043 sections 4.7 and 4.8.
 use Rattle.std.specs.Prelude.{◌≡◌, ℕ, zero, suc, List, [], ◌∷◌, length, slice_index}
 use Rattle.ffv1_predict.specs.declared.near.Near.{Near}
 use Rattle.ffv1_predict.specs.Border.{Rows, near}

@@ -1,4 +1,4 @@
--- The differences of a slice, read by the range coder. RFC 9043 sections 3.8.1.2 and 4.7.
+-- The differences of a slice, read by the range coder. RFC 9043 sections 3.8.1.2 and 4.8.
 use Rattle.std.specs.Prelude.{◌≡◌, ◌⊎◌, ℕ, ◌<◌, List, [], ◌∷◌, length, slice_index_or, slice_set, ℤ, nat_abs, true, Option, Some, None}
 use Rattle.ffv1_range.specs.Reading.{Reading}
 use Rattle.ffv1_range.specs.Symbol.{Source, source, symbol_at}

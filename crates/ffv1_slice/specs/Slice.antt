@@ -1,4 +1,4 @@
--- The samples of a slice, read into a picture. RFC 9043 sections 4.6 and 4.7.
+-- The samples of a slice, read into a picture. RFC 9043 sections 4.7 and 4.8.
 use Rattle.std.specs.Prelude.{◌≡◌, ◌⊎◌, ⊤, ℕ, ◌+◌, ◌≤◌, ◌<◌, Result, Ok, Err, List, [], ◌∷◌, length, replicate, slice_index_or, ℤ}
 use Rattle.pic_planes.specs.Picture.{Image, IsPlane, IsRow}
 use Rattle.ffv1_range.specs.Reading.{Reading}
@@ -55,7 +55,8 @@ ReadsAreas tables (area ∷ more) old new = (mid : Decoding) × ReadsArea tables
 
 abbrev pub TooLongInAreas : List (List ℤ) → List Area → Decoding → Type 0
 TooLongInAreas tables [] old = ⊥
-TooLongInAreas tables (area ∷ more) old = TooLongInArea tables area old ⊎ ((mid : Decoding) × ReadsArea tables area old mid × TooLongInAreas tables more mid)
+TooLongInAreas tables (area ∷ more) old =
+    TooLongInArea tables area old ⊎ ((mid : Decoding) × ReadsArea tables area old mid × TooLongInAreas tables more mid)
 
 -- Samples that share the states of their contexts: Y, and again Cb and Cr. They have the five quantization tables, how many
 -- contexts these give, and the areas of their planes.
@@ -77,7 +78,8 @@ begun p at = decoding (coding at.reading (fresh_contexts p.context_count)) at.im
 
 -- The samples of a part are read. The states that its contexts then have serve no more.
 abbrev pub ReadsPart : Part → Standing → Standing → Type 0
-ReadsPart p old new = (contexts : List (List ℕ)) × ReadsAreas p.tables p.areas (begun p old) (decoding (coding new.reading contexts) new.image)
+ReadsPart p old new =
+    (contexts : List (List ℕ)) × ReadsAreas p.tables p.areas (begun p old) (decoding (coding new.reading contexts) new.image)
 
 abbrev pub TooLongInPart : Part → Standing → Type 0
 TooLongInPart p old = TooLongInAreas p.tables p.areas (begun p old)

@@ -1,4 +1,4 @@
--- The differences of a slice, written by the range coder. RFC 9043 sections 3.8.1.2 and 4.7.
+-- The differences of a slice, written by the range coder. RFC 9043 sections 3.8.1.2 and 4.8.
 use Rattle.std.specs.Prelude.{◌≡◌, ℕ, zero, suc, List, [], ◌∷◌, take, drop, slice_set, ℤ, nat_abs, true}
 use Rattle.ffv1_range.specs.Writing.{Writing, put_all}
 use Rattle.ffv1_range.specs.Symbol.{spelling, with_states, set_after}
@@ -47,11 +47,13 @@ samples image area = samples_from image area area.height
 abbrev pub WritesAreas : List (List ℤ) → Image → List Area → Encoding → Encoding → Type 0
 WritesAreas tables image [] old new = old ≡ new
 WritesAreas tables image (area ∷ more) old new =
-    (mid : Encoding) × InRows (WritesSample tables) (rows_of_plane area.width (samples image area)) old mid × WritesAreas tables image more mid new
+    (mid : Encoding) × InRows (WritesSample tables) (rows_of_plane area.width (samples image area)) old mid
+    × WritesAreas tables image more mid new
 
 -- The samples of a part are written. The states of its contexts are fresh, and serve no more after it.
 abbrev pub WritesPart : Part → Image → Writing → Writing → Type 0
-WritesPart p image old new = (contexts : List (List ℕ)) × WritesAreas p.tables image p.areas (encoding old (fresh_contexts p.context_count)) (encoding new contexts)
+WritesPart p image old new =
+    (contexts : List (List ℕ)) × WritesAreas p.tables image p.areas (encoding old (fresh_contexts p.context_count)) (encoding new contexts)
 
 abbrev pub WritesSlice : Slice → Image → Writing → Writing → Type 0
 WritesSlice s image old new = (mid : Writing) × WritesPart s.luma image old mid × WritesPart s.chroma image mid new

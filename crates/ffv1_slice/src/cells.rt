@@ -1,4 +1,4 @@
-//! Where the cells of a slice lie in the planes. RFC 9043 section 4.6.
+//! Where the cells of a slice lie in the planes. RFC 9043 sections 4.7 and 4.8.
 ghost use Rattle.std.specs.Prelude.{◌≡◌, ◌+◌, ◌-◌, ◌*◌, ◌≤◌};
 ghost use Rattle.tl_limits.specs.Limits.{max_side};
 ghost use Rattle.pic_planes.specs.Shape.{AreShifts};

@@ -1,4 +1,4 @@
-//! The areas of planes that share the states of their contexts, written by the range coder. RFC 9043 section 4.6.
+//! The areas of planes that share the states of their contexts, written by the range coder. RFC 9043 section 4.7.
 ghost use Rattle.std.specs.Prelude.{◌≡◌, ◌<◌, ◌≤◌, OnOk, All, length, replicate};
 ghost use Rattle.ffv1_range.specs.Transition.{AllKept};
 ghost use Rattle.ffv1_slice.specs.Reading.{ContextsFit};
@@ -31,7 +31,8 @@ fn encode_areas(
     requires within { AreWithin picture.now.shape (length row.old) areas.now }
     requires fit { ContextsFit tables.now (length contexts.old) }
     requires kept { All (AllKept writer.old.table) contexts.old }
-    ensures ok { OnOk result (WritesAreas tables.now picture.now areas.now (encoding writer.old contexts.old) (encoding writer.new contexts.new)) }
+    ensures ok { OnOk result (WritesAreas tables.now picture.now areas.now
+        (encoding writer.old contexts.old) (encoding writer.new contexts.new)) }
     ensures table { writer.new.table ≡ writer.old.table }
 {
     for area in areas {

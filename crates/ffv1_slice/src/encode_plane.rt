@@ -1,4 +1,4 @@
-//! An area of a plane, written by the range coder. RFC 9043 sections 4.6 and 4.7.
+//! An area of a plane, written by the range coder. RFC 9043 sections 4.7 and 4.8.
 ghost use Rattle.std.specs.Prelude.{◌≡◌, ◌+◌, ◌<◌, ◌≤◌, OnOk, All, length};
 ghost use Rattle.ffv1_range.specs.Transition.{AllKept};
 ghost use Rattle.ffv1_predict.specs.Border.{rows_of_plane};
@@ -32,7 +32,8 @@ pub(crate) fn encode_rows(
     requires within { IsWithin picture.now.shape area }
     requires fit { ContextsFit tables.now (length contexts.old) }
     requires kept { All (AllKept writer.old.table) contexts.old }
-    ensures ok { OnOk result (InRows (WritesSample tables.now) (rows_of_plane area.width (samples picture.now area)) (encoding writer.old contexts.old) (encoding writer.new contexts.new)) }
+    ensures ok { OnOk result (InRows (WritesSample tables.now) (rows_of_plane area.width (samples picture.now area))
+        (encoding writer.old contexts.old) (encoding writer.new contexts.new)) }
     ensures table { writer.new.table ≡ writer.old.table }
     ensures kept { All (AllKept writer.new.table) contexts.new }
 {

@@ -1,4 +1,4 @@
-//! A row of a slice's plane, written by the range coder. RFC 9043 section 4.7.
+//! A row of a slice's plane, written by the range coder. RFC 9043 section 4.8.
 ghost use Rattle.std.specs.Prelude.{◌≡◌, ◌<◌, ◌≤◌, ◌^◌, OnOk, All, length, nat_abs, ℤ, negsuc, pos, ◌≤ℤ◌};
 ghost use Rattle.ffv1_range.specs.Transition.{AllKept};
 ghost use Rattle.ffv1_predict.specs.Border.{rows};
@@ -64,7 +64,8 @@ pub(crate) fn encode_row(
     requires above { length above.now ≡ length row.now }
     requires fit { ContextsFit tables.now (length contexts.old) }
     requires kept { All (AllKept writer.old.table) contexts.old }
-    ensures ok { OnOk result (InRow (WritesSample tables.now) (rows above2.now above.now row.now) (length row.now) (encoding writer.old contexts.old) (encoding writer.new contexts.new)) }
+    ensures ok { OnOk result (InRow (WritesSample tables.now) (rows above2.now above.now row.now) (length row.now)
+        (encoding writer.old contexts.old) (encoding writer.new contexts.new)) }
     ensures table { writer.new.table ≡ writer.old.table }
     ensures kept { All (AllKept writer.new.table) contexts.new }
 {

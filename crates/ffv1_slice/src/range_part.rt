@@ -1,4 +1,4 @@
-//! The areas of planes that share the states of their contexts, read by the range coder. RFC 9043 section 4.6.
+//! The areas of planes that share the states of their contexts, read by the range coder. RFC 9043 section 4.7.
 ghost use Rattle.std.specs.Prelude.{◌≡◌, ◌<◌, ◌≤◌, IfOk, OnErr, All, length, replicate};
 ghost use Rattle.ffv1_range.specs.Transition.{AllKept};
 ghost use Rattle.ffv1_slice.specs.Reading.{coding, ContextsFit};
@@ -27,7 +27,8 @@ fn decode_areas<'a>(
     requires within { AreWithin picture.old.shape (length row.old) areas.now }
     requires fit { ContextsFit tables.now (length contexts.old) }
     requires kept { All (AllKept reader.table) contexts.old }
-    ensures ok { IfOk result (λ after. ReadsAreas tables.now areas.now (decoding (coding reader.entry contexts.old) picture.old) (decoding (coding after contexts.new) picture.new)) }
+    ensures ok { IfOk result (λ after. ReadsAreas tables.now areas.now
+        (decoding (coding reader.entry contexts.old) picture.old) (decoding (coding after contexts.new) picture.new)) }
     ensures too_long { OnErr result (TooLongInAreas tables.now areas.now (decoding (coding reader.entry contexts.old) picture.old)) }
     ensures table { IfOk result (λ after. after.table ≡ reader.entry.table) }
     ensures shape { picture.new.shape ≡ picture.old.shape }
@@ -62,7 +63,8 @@ pub(crate) fn decode_part<'a>(
     requires within { AreWithin picture.old.shape scratch.old.width areas.now }
     requires fit { ContextsFit tables.now context_count }
     requires fresh { AllKept reader.table (replicate 32 128) }
-    ensures ok { IfOk result (λ after. ReadsPart (part tables.now context_count areas.now) (standing reader.entry picture.old) (standing after picture.new)) }
+    ensures ok { IfOk result (λ after. ReadsPart (part tables.now context_count areas.now)
+        (standing reader.entry picture.old) (standing after picture.new)) }
     ensures too_long { OnErr result (TooLongInPart (part tables.now context_count areas.now) (standing reader.entry picture.old)) }
     ensures table { IfOk result (λ after. after.table ≡ reader.entry.table) }
     ensures shape { picture.new.shape ≡ picture.old.shape }

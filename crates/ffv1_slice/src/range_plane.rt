@@ -1,4 +1,4 @@
-//! An area of a plane, read by the range coder. RFC 9043 sections 4.6 and 4.7.
+//! An area of a plane, read by the range coder. RFC 9043 sections 4.7 and 4.8.
 ghost use Rattle.std.specs.Prelude.{◌≡◌, ◌+◌, ◌<◌, ◌≤◌, IfOk, OnErr, All, length};
 ghost use Rattle.ffv1_range.specs.Transition.{AllKept};
 ghost use Rattle.ffv1_slice.specs.Reading.{coding, ContextsFit};
@@ -27,7 +27,8 @@ pub(crate) fn decode_rows<'a>(
     requires within { IsWithin picture.old.shape area }
     requires fit { ContextsFit tables.now (length contexts.old) }
     requires kept { All (AllKept reader.table) contexts.old }
-    ensures ok { IfOk result (λ after. ReadsArea tables.now area (decoding (coding reader.entry contexts.old) picture.old) (decoding (coding after contexts.new) picture.new)) }
+    ensures ok { IfOk result (λ after. ReadsArea tables.now area
+        (decoding (coding reader.entry contexts.old) picture.old) (decoding (coding after contexts.new) picture.new)) }
     ensures too_long { OnErr result (TooLongInArea tables.now area (decoding (coding reader.entry contexts.old) picture.old)) }
     ensures table { IfOk result (λ after. after.table ≡ reader.entry.table) }
     ensures kept { IfOk result (λ after. All (AllKept after.table) contexts.new) }

@@ -1,4 +1,4 @@
-//! A row of a slice's plane, read by the range coder. RFC 9043 section 4.7.
+//! A row of a slice's plane, read by the range coder. RFC 9043 section 4.8.
 ghost use Rattle.std.specs.Prelude.{◌≡◌, ℕ, ◌<◌, ◌≤◌, ◌^◌, IfOk, OnErr, List, All, length, nat_abs, None};
 ghost use Rattle.std.specs.Result.{result_ok};
 ghost use Rattle.ffv1_range.specs.Transition.{AllKept};
@@ -37,8 +37,10 @@ fn read_sample(
 ) -> Result<u8, TooLong>
     requires fit { ContextsFit tables.now (length contexts.old) }
     requires kept { All (AllKept reader.old.table) contexts.old }
-    ensures ok { IfOk result (λ sample. ReadsSample tables.now near sample (coding reader.old contexts.old) (coding reader.new contexts.new)) }
-    ensures too_long { OnErr result (difference_at (coding reader.old contexts.old) (context tables.now near) ≡ (None, coding reader.new contexts.new)) }
+    ensures ok { IfOk result (λ sample. ReadsSample tables.now near sample
+        (coding reader.old contexts.old) (coding reader.new contexts.new)) }
+    ensures too_long { OnErr result (difference_at (coding reader.old contexts.old) (context tables.now near)
+        ≡ (None, coding reader.new contexts.new)) }
     ensures table { reader.new.table ≡ reader.old.table }
     ensures kept { All (AllKept reader.new.table) contexts.new }
 {
@@ -61,7 +63,8 @@ pub(crate) fn decode_row<'a>(
     requires above { length above.now ≡ length row.old }
     requires fit { ContextsFit tables.now (length contexts.old) }
     requires kept { All (AllKept reader.table) contexts.old }
-    ensures ok { IfOk result (λ after. InRow (ReadsSample tables.now) (rows above2.now above.now row.new) (length row.new) (coding reader.entry contexts.old) (coding after contexts.new)) }
+    ensures ok { IfOk result (λ after. InRow (ReadsSample tables.now) (rows above2.now above.now row.new) (length row.new)
+        (coding reader.entry contexts.old) (coding after contexts.new)) }
     ensures too_long { OnErr result (TooLongInRow tables.now (rows above2.now above.now row.new) (coding reader.entry contexts.old)) }
     ensures table { IfOk result (λ after. after.table ≡ reader.entry.table) }
     ensures kept { IfOk result (λ after. All (AllKept after.table) contexts.new) }

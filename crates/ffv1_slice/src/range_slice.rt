@@ -1,4 +1,4 @@
-//! The samples of a slice, read by the range coder. RFC 9043 sections 4.6 and 4.7.
+//! The samples of a slice, read by the range coder. RFC 9043 sections 4.7 and 4.8.
 ghost use Rattle.std.specs.Prelude.{◌≡◌, ◌+◌, ◌<◌, ◌≤◌, ◌^◌, [], ◌∷◌, IfOk, OnErr, length, replicate};
 ghost use Rattle.ffv1_range.specs.Transition.{AllKept};
 ghost use Rattle.ffv1_slice.specs.Slice.{standing, slice_of, ReadsSlice, TooLongInSlice, Gives, IsReady, CanHold};
@@ -30,7 +30,8 @@ fn decode_samples<'a>(
     requires chroma { IsReady chroma scratch.old }
     requires areas { CanHold picture.old.shape scratch.old areas }
     requires fresh { AllKept reader.table (replicate 32 128) }
-    ensures ok { IfOk result (λ after. ReadsSlice (slice_of luma.entry chroma.entry areas) (standing reader.entry picture.old) (standing after picture.new)) }
+    ensures ok { IfOk result (λ after. ReadsSlice (slice_of luma.entry chroma.entry areas)
+        (standing reader.entry picture.old) (standing after picture.new)) }
     ensures too_long { OnErr result (TooLongInSlice (slice_of luma.entry chroma.entry areas) (standing reader.entry picture.old)) }
     ensures shape { picture.new.shape ≡ picture.old.shape }
     ensures room { scratch.new ≡ scratch.old }
