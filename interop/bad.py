@@ -36,18 +36,17 @@ class Try(NamedTuple):
     files: Dict[str, bytes] = {}
     words: Sequence[str] = ("s",)
     writes: Optional[str] = None
-    under: Sequence[str] = ()
     export: Optional[bytes] = None  # where it isn't that of the folder's clip
 
 
 class Ground:
     """A folder with a script that works, its clip, an old export and a file that has nothing to do with them."""
 
-    def __init__(self, work: Path):
-        self.folder = work / "bad"
+    def __init__(self, work: Path, name: str):
+        self.folder = work / name
         clip = clips.Clip("128x96", "yuv420p", clips.RANGE, 4, 1, FRAMES, ())
-        self.clip = clips.make(clip, work / "bad-clip")
-        self.data = (work / "bad-clip" / "a.mkv").read_bytes()
+        self.clip = clips.make(clip, work / f"{name}-clip")
+        self.data = (work / f"{name}-clip" / "a.mkv").read_bytes()
         self.export = self.written(RATE)
         self.files = {
             "s": script(length=FRAMES, rate=RATE),
@@ -74,7 +73,7 @@ class Ground:
         """Lays the files, runs the program, and checks what it said and what it wrote."""
         self.lay(it.files)
         before = sums_of(self.folder)
-        ran = run([*it.under, PROGRAM, *it.words], self.folder)
+        ran = run([PROGRAM, *it.words], self.folder)
         after = sums_of(self.folder)
         faults = [differs("the output", ran.out, it.out), differs("the status", ran.status, it.status), ran.err]
         faults.append(changed(before, after, [it.writes] if it.writes else []))
@@ -189,17 +188,6 @@ def check_reader(report: Report, ground: Ground):
     report.check(f"the reader of this folder, over {len(small)} clips", faults)
 
 
-def full_disk(report: Report, ground: Ground):
-    """An export onto a disk of one page, where this machine lets a script mount one that ends with the run."""
-    alone = ["unshare", "--mount", "sh", "-c", 'mount -t tmpfs -o size=4k none full && exec "$0" "$@"']
-    ground.lay({})
-    if shutil.which("unshare") is None or run([*alone, "true"], ground.folder).status:
-        print("skipped a full disk: no disk can be mounted here", flush=True)
-        return
-    files = {"s": script(length=FRAMES, rate=RATE, export="full/o.mkv")}
-    ground.attempt(report, Try("an export onto a full disk", NOT_WRITTEN, 4, files, under=alone))
-
-
 def full_output(report: Report, ground: Ground):
     """Standard output that takes nothing: status 4."""
     ground.lay({})
@@ -213,9 +201,8 @@ def full_output(report: Report, ground: Ground):
 
 
 def check_bad_input(report: Report, work: Path):
-    ground = Ground(work)
+    ground = Ground(work, "bad")
     for it in (*scripts(), *words(), *names(), *clip_files(ground)):
         ground.attempt(report, it)
     check_reader(report, ground)
-    full_disk(report, ground)
     full_output(report, ground)

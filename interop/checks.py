@@ -10,6 +10,7 @@ from demo import check_demo
 from each_byte import check_each_byte
 from good import check_clips
 from ids import check_ids
+from kept import check_kept
 from real import check_real
 from report import Report
 from tools import HERE
@@ -20,6 +21,7 @@ PARTS = {
     "clips": check_clips,
     "real": check_real,
     "bad": check_bad_input,
+    "kept": check_kept,
     "bytes": check_each_byte,
 }
 

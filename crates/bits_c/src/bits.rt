@@ -10,7 +10,7 @@ const STATES: usize = 16_384;
 /// Reads the recorded bits, each with its state, and counts those that are read as another bit.
 #[unsafe(no_mangle)]
 pub extern "C" fn bits_c_read(bytes: &[u8], recorded: &[u16]) -> u64 {
-    let table = Transition::usual();
+    let table = Transition::default_table();
     let mut reader = RangeReader::over(bytes, &table);
     let mut states = fresh();
     let mut wrong = 0u64;
@@ -32,7 +32,7 @@ pub extern "C" fn bits_c_write(alloc: Global, recorded: &[u16], out: &mut [u8]) 
 }
 
 fn written(alloc: Global, recorded: &[u16]) -> Result<Vec<u8>, AllocError> {
-    let table = Transition::usual();
+    let table = Transition::default_table();
     let mut writer = RangeWriter::start(alloc, &table);
     let mut states = fresh();
     for coded in recorded {

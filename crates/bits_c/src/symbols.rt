@@ -30,7 +30,7 @@ fn read(bytes: &[u8], recorded: &[Recorded], sets: &mut [States]) -> u64
     requires len { length sets.old ≡ SETS }
     requires fresh { All (λ states. states ≡ replicate 32 128) sets.old }
 {
-    let table = Transition::usual();
+    let table = Transition::default_table();
     let mut reader = RangeReader::over(bytes, &table);
     let mut wrong = 0u64;
     for coded in recorded {
@@ -67,7 +67,7 @@ fn written_with(
     requires len { length sets.old ≡ SETS }
     requires fresh { All (λ states. states ≡ replicate 32 128) sets.old }
 {
-    let table = Transition::usual();
+    let table = Transition::default_table();
     let mut writer = RangeWriter::start(alloc, &table);
     for coded in recorded {
         write_with(&mut writer, sets, set_of(*coded), coded.value)?;

@@ -1,5 +1,5 @@
 -- The bytes of what was written, as a number.
-use Rattle.std.proofs.Common.{◌≡◌, ℕ, zero, suc, ◌+◌, ◌-◌, ◌*◌, ◌/◌, ◌%◌, ◌^◌, ◌<◌, ◌≤◌, min, Bool, true, false, ltb, leb, List, [], ◌∷◌, ◌++◌, length, refl, sym, ap, ◌∙◌, subst, arith, append-nil, inl, inr}
+use Rattle.std.proofs.Common.{◌≡◌, ℕ, zero, suc, ◌+◌, ◌-◌, ◌*◌, ◌/◌, ◌%◌, ◌^◌, ◌<◌, ◌≤◌, min, Bool, true, false, ltb, leb, List, [], ◌∷◌, ◌++◌, cond, length, refl, sym, ap, ◌∙◌, subst, arith, append-nil, inl, inr}
 use Rattle.std.specs.Prelude.{slice_index}
 use Rattle.std.specs.Int.{byte_at, bytes_high_first}
 use Rattle.std.proofs.Math.Nat.{pow-suc, pow-succ', one-le-pow, div-add-mod, add-mul-mod_self_left, mod-eq_of_lt}
@@ -7,8 +7,8 @@ use Rattle.std.proofs.Math.Seq.{get_or-append_right}
 use Rattle.std.proofs.lemmas.Nat.{mod_below, mul-add-lt, div_below}
 use Rattle.std.proofs.lemmas.Bool.{cases_lt, lt-ltb, le-ltb, lt-leb, cases_Bool}
 use Rattle.ffv1_range.specs.Reading.{Reading, one_part, zero_part, opened, bit_of, narrowed, renewed, after_bit, after_bits}
-use Rattle.ffv1_range.specs.Writing.{Writing, started, chosen, shifted, put, put_all, part, closed, AreStates}
-use Rattle.ffv1_range.specs.Law.{states_of, written, ReadsOpenPart, ReadsClosedParts}
+use Rattle.ffv1_range.specs.Writing.{Writing, started, chosen, shifted, put, put_all, part, with_sentinel, AreStates}
+use Rattle.ffv1_range.specs.Law.{states_of, written, ReadsBack, ReadsClosedMode, ReadsSentinel, ReadsSentinelMode, IsReadBack}
 use Rattle.ffv1_range.proofs.Stream.{first_bytes, first_bytes-next, IsBytes, IsWithin, Tracks, one_part_lt, put-wide, ReadsOn, reads_on, tracks_opened, within_before}
 
 -- ---- a number by its bytes
@@ -111,13 +111,13 @@ pub fits_part : (w : Writing) (more : List ℕ) → IsBytes more → IsBytes (pa
 unfolding part
 fits_part w more fits = fits_bytes (w.count - 1) ((w.low + 255) / 256) more fits
 
-pub closed-made : (w : Writing) → IsMade w → IsMade (closed w)
-unfolding closed
-closed-made w h = record { wide = put-wide w 129 false h.wide (omega arith) (omega arith); bounded = put-bounded w 129 false h.wide (omega arith) (omega arith) h.bounded }
+pub with_sentinel-made : (w : Writing) → IsMade w → IsMade (with_sentinel w)
+unfolding with_sentinel
+with_sentinel-made w h = record { wide = put-wide w 129 false h.wide (omega arith) (omega arith); bounded = put-bounded w 129 false h.wide (omega arith) (omega arith) h.bounded }
 
 -- ---- the law
-pub open_within : (w : Writing) → IsMade w → IsWithin (part w ++ []) w
-open_within w h =
+pub closed_within : (w : Writing) → IsMade w → IsWithin (part w ++ []) w
+closed_within w h =
     let e = first_bytes-part w [] h in
     record { from = omega (arith, e); below = omega (arith, e, h.wide) }
 
@@ -130,23 +130,23 @@ reads_back table bytes coded fits states within =
     let tracks = tracks_opened table bytes fits (within_before bytes (started table) coded fits made.wide states within) in
     reads_on bytes (opened table bytes) (started table) coded fits tracks made.wide states within
 
-pub reads_open : ReadsOpenPart
-reads_open table coded states =
+pub closed_read : ReadsClosedMode
+closed_read table coded states =
     let w = written table coded in
     let made = put_all-made (started table) coded states (started-made table) in
     let all = append-nil (part w) in
-    let read = reads_back table (part w) coded (subst (λ (b : List ℕ). IsBytes b) all (fits_part w [] no_bytes)) states (subst (λ (b : List ℕ). IsWithin b w) all (open_within w made)) in
+    let read = reads_back table (part w) coded (subst (λ (b : List ℕ). IsBytes b) all (fits_part w [] no_bytes)) states (subst (λ (b : List ℕ). IsWithin b w) all (closed_within w made)) in
     record { bits = read.bits; taken = read.after.taken }
 
--- ---- the closing bit, whatever follows
+-- ---- the sentinel, whatever follows
 after_bits-last : (p : Reading) (states : List ℕ) (state : ℕ) → after_bits p (states ++ state ∷ []) ≡ after_bit (after_bits p states) state
 after_bits-last p [] state = refl
 after_bits-last p (s ∷ states) state = after_bits-last (after_bit p s) states state
 
--- how far the bytes of a closed part are from what was written before the closing bit
-pub closed_within : (w : Writing) (bytes : List ℕ) → IsBytes bytes → 256 ≤ w.range → (closed w).low ≤ first_bytes (closed w).count bytes → first_bytes (closed w).count bytes ≤ (closed w).low + 510 → IsWithin bytes w
-unfolding closed put chosen shifted
-closed_within w bytes fits wide from below =
+-- how far the bytes of a part with the sentinel are from what was written before it
+pub sentinel_within : (w : Writing) (bytes : List ℕ) → IsBytes bytes → 256 ≤ w.range → (with_sentinel w).low ≤ first_bytes (with_sentinel w).count bytes → first_bytes (with_sentinel w).count bytes ≤ (with_sentinel w).low + 510 → IsWithin bytes w
+unfolding with_sentinel put chosen shifted
+sentinel_within w bytes fits wide from below =
     let next = first_bytes-next w.count bytes in
     let small = fits w.count in
     elim (cases_lt (zero_part w.range 129) 256) [
@@ -162,10 +162,10 @@ closed_within w bytes fits wide from below =
           record { from = omega arith; below = omega arith }
     ]
 
--- Reading the closing bit takes as many bytes, whichever bit it gives.
-pub closed_taken : (w : Writing) (bytes : List ℕ) (p : Reading) → IsBytes bytes → 256 ≤ w.range → (closed w).low ≤ first_bytes (closed w).count bytes → first_bytes (closed w).count bytes ≤ (closed w).low + 510 → Tracks bytes p w → (after_bit p 129).taken ≡ min (closed w).count (2 ^ 64 - 1)
-unfolding closed put chosen shifted after_bit narrowed renewed bit_of
-closed_taken w bytes p fits wide from below h =
+-- Reading the sentinel takes as many bytes, whichever bit it gives.
+pub sentinel_taken : (w : Writing) (bytes : List ℕ) (p : Reading) → IsBytes bytes → 256 ≤ w.range → (with_sentinel w).low ≤ first_bytes (with_sentinel w).count bytes → first_bytes (with_sentinel w).count bytes ≤ (with_sentinel w).low + 510 → Tracks bytes p w → (after_bit p 129).taken ≡ min (with_sentinel w).count (2 ^ 64 - 1)
+unfolding with_sentinel put chosen shifted after_bit narrowed renewed bit_of
+sentinel_taken w bytes p fits wide from below h =
     let next = first_bytes-next w.count bytes in
     let small = fits w.count in
     let e = ap (λ r. zero_part r 129) h.range in
@@ -187,20 +187,39 @@ closed_taken w bytes p fits wide from below h =
           ])
     ]
 
-pub reads_closed : ReadsClosedParts
-reads_closed table coded more states fits_more =
+length-part : (w : Writing) → IsMade w → length (part w) + 1 ≡ w.count
+unfolding part
+length-part w h = omega (arith, length-bytes (w.count - 1) ((w.low + 255) / 256), h.bounded.counted)
+
+pub sentinel_read : ReadsSentinelMode
+sentinel_read table coded more states fits_more =
     let w = written table coded in
-    let last = closed w in
+    let last = with_sentinel w in
     let bytes = part last ++ more in
     let made = put_all-made (started table) coded states (started-made table) in
-    let last_made = closed-made w made in
+    let last_made = with_sentinel-made w made in
     let fits = fits_part last more fits_more in
     let number = first_bytes-part last more last_made in
     let from : last.low ≤ first_bytes last.count bytes = omega (arith, number) in
     let below : first_bytes last.count bytes ≤ last.low + 510 = omega (arith, number, fits_more 0) in
-    let read = reads_back table bytes coded fits states (closed_within w bytes fits made.wide from below) in
+    let read = reads_back table bytes coded fits states (sentinel_within w bytes fits made.wide from below) in
     record {
       before = record { bits = read.bits; taken = read.after.taken };
       taken = ap (λ (p : Reading). p.taken) (after_bits-last (opened table bytes) (states_of coded) 129)
-          ∙ closed_taken w bytes (after_bits (opened table bytes) (states_of coded)) fits made.wide from below read.after;
+          ∙ sentinel_taken w bytes (after_bits (opened table bytes) (states_of coded)) fits made.wide from below read.after
+          ∙ ap (λ n. min n (2 ^ 64 - 1)) (sym (length-part last last_made));
     }
+
+-- ---- the bytes of a writing are read again in its mode
+in_closed_mode : (w : Writing) (coded : List (ℕ × Bool)) → AreStates coded → w ≡ written w.table coded → ReadsBack w.table (part w) coded (length (part w) + 1)
+in_closed_mode w coded states is =
+    let made : IsMade w = subst IsMade (sym is) (put_all-made (started w.table) coded states (started-made w.table)) in
+    let read : ReadsBack w.table (part (written w.table coded)) coded (written w.table coded).count = closed_read w.table coded states in
+    let here : ReadsBack w.table (part w) coded w.count = subst (λ (v : Writing). ReadsBack w.table (part v) coded v.count) (sym is) read in
+    subst (λ n. ReadsBack w.table (part w) coded n) (sym (length-part w made)) here
+
+pub is_read_back : (sentinel : Bool) (w : Writing) (bytes : List ℕ) → bytes ≡ part (cond sentinel (with_sentinel w) w) → IsReadBack sentinel w bytes
+is_read_back true w bytes is = λ coded states made more fits.
+    subst (λ (b : List ℕ). ReadsSentinel w.table coded b more) (sym is)
+    (subst (λ (v : Writing). ReadsSentinel w.table coded (part (with_sentinel v)) more) (sym made) (sentinel_read w.table coded more states fits))
+is_read_back false w bytes is = λ coded states made. subst (λ (b : List ℕ). ReadsBack w.table b coded (length b + 1)) (sym is) (in_closed_mode w coded states made)

@@ -1,7 +1,7 @@
 -- The law of the range coder: reading what was written gives the bits back.
-use Rattle.std.specs.Prelude.{◌≡◌, ℕ, ◌-◌, ◌<◌, ◌^◌, min, Bool, false, ℤ, nat_abs, List, [], ◌∷◌, ◌++◌, map, slice_index, Some, None}
+use Rattle.std.specs.Prelude.{◌≡◌, ℕ, ◌+◌, ◌-◌, ◌<◌, ◌^◌, min, Bool, true, false, ℤ, nat_abs, List, [], ◌∷◌, ◌++◌, length, map, slice_index, Some, None}
 use Rattle.ffv1_range.specs.Reading.{Reading, opened, bits_read, after_bits}
-use Rattle.ffv1_range.specs.Writing.{Writing, started, put_all, part, closed, AreStates}
+use Rattle.ffv1_range.specs.Writing.{Writing, started, put_all, part, with_sentinel, AreStates}
 use Rattle.ffv1_range.specs.Symbol.{Source, Reads, source, spelling, too_long, symbol_at, with_states, set_after, is_negative}
 
 abbrev pub states_of : List (ℕ × Bool) → List ℕ
@@ -19,20 +19,29 @@ pub record ReadsBack (table bytes : List ℕ) (coded : List (ℕ × Bool)) (coun
   pub bits : bits_read (opened table bytes) (states_of coded) ≡ bits_of coded
   pub taken : (after_bits (opened table bytes) (states_of coded)).taken ≡ min count (2 ^ 64 - 1)
 
--- without the closing bit
-abbrev pub ReadsOpenPart : Type 0
-ReadsOpenPart = (table : List ℕ) (coded : List (ℕ × Bool)) → AreStates coded
+-- Closed mode: the part's bytes alone are read, and zeros after them. RFC 9043 section 3.8.1.1.1.
+abbrev pub ReadsClosedMode : Type 0
+ReadsClosedMode = (table : List ℕ) (coded : List (ℕ × Bool)) → AreStates coded
     → ReadsBack table (part (written table coded)) coded (written table coded).count
 
--- With the closing bit, whatever bytes follow: the bits before it are read back, and reading takes as many bytes up to and with it.
-pub record ReadsClosedPart (table : List ℕ) (coded : List (ℕ × Bool)) (bytes : List ℕ) : Type 0 where
-  pub before : ReadsBack table bytes coded (written table coded).count
-  pub taken : (after_bits (opened table bytes) (states_of coded ++ 129 ∷ [])).taken ≡ min (closed (written table coded)).count (2 ^ 64 - 1)
+-- Sentinel mode, whatever bytes follow a part: the bits before the sentinel are read back, and reading up to and with the sentinel
+-- takes one byte more than the part has. RFC 9043 section 3.8.1.1.1.
+pub record ReadsSentinel (table : List ℕ) (coded : List (ℕ × Bool)) (bytes more : List ℕ) : Type 0 where
+  pub before : ReadsBack table (bytes ++ more) coded (written table coded).count
+  pub taken : (after_bits (opened table (bytes ++ more)) (states_of coded ++ 129 ∷ [])).taken ≡ min (length bytes + 1) (2 ^ 64 - 1)
 
-abbrev pub ReadsClosedParts : Type 0
-ReadsClosedParts = (table : List ℕ) (coded : List (ℕ × Bool)) (more : List ℕ) → AreStates coded
+abbrev pub ReadsSentinelMode : Type 0
+ReadsSentinelMode = (table : List ℕ) (coded : List (ℕ × Bool)) (more : List ℕ) → AreStates coded
     → ((k : ℕ) → slice_index more k < 256)
-    → ReadsClosedPart table coded (part (closed (written table coded)) ++ more)
+    → ReadsSentinel table coded (part (with_sentinel (written table coded))) more
+
+-- What is read of the bytes of a writing, in Sentinel mode or in Closed mode.
+abbrev pub ReadsInMode : Bool → List ℕ → List (ℕ × Bool) → List ℕ → Type 0
+ReadsInMode true table coded bytes = (more : List ℕ) → ((k : ℕ) → slice_index more k < 256) → ReadsSentinel table coded bytes more
+ReadsInMode false table coded bytes = ReadsBack table bytes coded (length bytes + 1)
+
+abbrev pub IsReadBack : Bool → Writing → List ℕ → Type 0
+IsReadBack sentinel w bytes = (coded : List (ℕ × Bool)) → AreStates coded → w ≡ written w.table coded → ReadsInMode sentinel w.table coded bytes
 
 -- what has a spelling: a magnitude below 2 ^ 32, and 0 or more where it is unsigned
 abbrev pub IsSpelled : ℤ → Bool → Type 0

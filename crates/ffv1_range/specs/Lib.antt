@@ -1,5 +1,5 @@
 pub mod Transition
-pub mod Usual
+pub mod DefaultTransition
 pub mod Reading
 pub mod Writing
 pub mod Symbol

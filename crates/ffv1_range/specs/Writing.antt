@@ -41,9 +41,9 @@ put_all w (coded ∷ more) = put_all (put w coded.0 coded.1) more
 unfoldable pub part : Writing → List ℕ
 part w = bytes_high_first (w.count - 1) ((w.low + 255) / 256)
 
--- the bit 0 with state 129 that closes a slice's range-coded part
-unfoldable pub closed : Writing → Writing
-closed w = put w 129 false
+-- the sentinel, a bit 0 with state 129, with which a slice's range-coded part ends. RFC 9043 section 3.8.1.1.1.
+unfoldable pub with_sentinel : Writing → Writing
+with_sentinel w = put w 129 false
 
 -- the states are 1 to 255
 abbrev pub AreStates : List (ℕ × Bool) → Type 0

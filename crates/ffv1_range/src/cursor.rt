@@ -1,6 +1,6 @@
 //! The bytes of a writer: the one number that the bits narrow, its last bytes in a register. RFC 9043 section 3.8.1.1.
 ghost use Rattle.std.specs.Prelude.{◌≡◌, ℕ, ◌+◌, ◌*◌, ◌/◌, ◌^◌, ◌<◌, ◌≤◌, if◌then◌else◌, List, length, take};
-ghost use Rattle.ffv1_range.specs.Writing.{shifted, put, part, closed};
+ghost use Rattle.ffv1_range.specs.Writing.{shifted, put, part, with_sentinel};
 ghost use Rattle.ffv1_range.specs.Cursor.{number_of, writing_at, IsSound};
 
 /// Where a writer stands: the range, the kept low with its carry, and how many bytes were put.
@@ -95,12 +95,12 @@ pub(crate) fn write_bit(bytes: &mut [u8], at: Cursor, state: u8, bit: bool) -> C
     }
 }
 
-// Writes the closing bit, where there is to be one.
-#[tactic(auto, unfolding(crate::specs::Writing::closed))]
-pub(crate) fn close(bytes: &mut [u8], at: Cursor, sentinel: bool) -> Cursor
+// Writes the sentinel, where there is to be one.
+#[tactic(auto, unfolding(crate::specs::Writing::with_sentinel))]
+pub(crate) fn put_sentinel(bytes: &mut [u8], at: Cursor, sentinel: bool) -> Cursor
     requires sound { IsSound bytes.old at }
     requires room { at.used < length bytes.old }
-    ensures at { (table : List ℕ) → writing_at table bytes.new result ≡ (if sentinel then closed (writing_at table bytes.old at) else writing_at table bytes.old at) }
+    ensures at { (table : List ℕ) → writing_at table bytes.new result ≡ (if sentinel then with_sentinel (writing_at table bytes.old at) else writing_at table bytes.old at) }
     ensures sound { IsSound bytes.new result }
     ensures used { result.used ≤ at.used + 1 }
 {

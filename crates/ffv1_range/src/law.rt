@@ -1,26 +1,27 @@
 //! The laws of the range coder, about its definitions alone, and what `clone` and `==` answer.
 ghost use Rattle.std.specs.Prelude.{◌≡◌, ℕ, List, true};
 ghost use Rattle.ffv1_range.specs.declared.reader.TooLong.{TooLong};
-ghost use Rattle.ffv1_range.specs.Usual.{default_state_transition};
-ghost use Rattle.ffv1_range.specs.Law.{ReadsOpenPart, ReadsClosedParts, ReadsSymbols, CodesInTurn, NoPrefix};
+ghost use Rattle.ffv1_range.specs.DefaultTransition.{default_state_transition};
+ghost use Rattle.ffv1_range.specs.Law.{ReadsClosedMode, ReadsSentinelMode, ReadsSymbols, CodesInTurn, NoPrefix};
 
 use crate::reader::TooLong;
 use crate::states::States;
-use crate::transition::USUAL;
+use crate::transition::DEFAULT_TRANSITION;
 
-/// The usual table is the one of the standard.
-pub fn usual_is_default()
-    ensures { USUAL ≡ default_state_transition }
+/// The default table is the one of the standard.
+pub fn default_is_standard()
+    ensures { DEFAULT_TRANSITION ≡ default_state_transition }
 {}
 
-/// Without the closing bit, reading what was written gives the bits back.
-pub fn reads_open_part()
-    ensures { ReadsOpenPart }
+/// In Closed mode reading what was written gives the bits back.
+pub fn reads_closed_mode()
+    ensures { ReadsClosedMode }
 {}
 
-/// With the closing bit, whatever bytes follow, reading gives the bits before it back, and takes as many bytes up to and with it.
-pub fn reads_closed_part()
-    ensures { ReadsClosedParts }
+/// In Sentinel mode, whatever bytes follow, reading gives the bits before the sentinel back, and takes one byte more than the part
+/// has up to and with it.
+pub fn reads_sentinel_mode()
+    ensures { ReadsSentinelMode }
 {}
 
 /// A symbol is read as a value exactly where the value's spelling is read.

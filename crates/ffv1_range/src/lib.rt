@@ -12,12 +12,12 @@ mod transition;
 mod writer;
 
 pub use law::{
-    clone_and_eq_are_exact, codes_in_turn, no_prefix, reads_closed_part, reads_open_part,
-    reads_symbols, usual_is_default,
+    clone_and_eq_are_exact, codes_in_turn, default_is_standard, no_prefix, reads_closed_mode,
+    reads_sentinel_mode, reads_symbols,
 };
 pub use reader::{RangeReader, TooLong};
 pub use states::States;
-pub use transition::{Transition, USUAL};
+pub use transition::{DEFAULT_TRANSITION, Transition};
 pub use writer::RangeWriter;
 
 #[cfg(test)]

@@ -9,7 +9,7 @@ use std::test::Fail;
 
 #[test]
 fn reads_two_bits(rt: HostRuntime) -> Result<(), Fail> {
-    let table = Transition::usual();
+    let table = Transition::default_table();
     let mut reader = RangeReader::over(&[0x80, 0x00], &table);
     let mut first = 128;
     let mut second = 128;
@@ -57,13 +57,13 @@ fn is_read(bytes: &[u8], table: &Transition, list: u32, count: u8) -> bool
 
 #[test]
 fn reads_short_lists_back(rt: HostRuntime) -> Result<(), Fail> {
-    let table = Transition::usual();
+    let table = Transition::default_table();
     for count in 1..13u8 {
         for list in 0..4096u32 {
             let bare = written(rt.alloc(), &table, list, count, false)?;
             assert!(rt; is_read(bare.as_slice(), &table, list, count));
-            let closed = written(rt.alloc(), &table, list, count, true)?;
-            assert!(rt; is_read(closed.as_slice(), &table, list, count));
+            let ended = written(rt.alloc(), &table, list, count, true)?;
+            assert!(rt; is_read(ended.as_slice(), &table, list, count));
         }
     }
     Ok(())
@@ -88,7 +88,7 @@ fn read_back(alloc: Global, table: &Transition, value: i64) -> Result<Option<i64
 
 #[test]
 fn reads_symbols_back(rt: HostRuntime) -> Result<(), Fail> {
-    let table = Transition::usual();
+    let table = Transition::default_table();
     for value in [
         0,
         1,
@@ -151,7 +151,7 @@ fn written_bits(
 #[test]
 fn spells_worked_values(rt: HostRuntime) -> Result<(), Fail> {
     worked_spellings();
-    let table = Transition::usual();
+    let table = Transition::default_table();
     for (value, spelling) in [(-5, MINUS_FIVE.as_slice()), (0, ZERO.as_slice())] {
         let mut writer = RangeWriter::start(rt.alloc(), &table);
         let mut set = States::fresh();

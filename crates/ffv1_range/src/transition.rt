@@ -6,7 +6,7 @@ use std::marker::Model;
 
 /// The state after a bit 1 for each state, of the table that a stream has where it codes no deltas.
 #[rattlefmt::skip]
-pub const USUAL: [u8; 256] = [
+pub const DEFAULT_TRANSITION: [u8; 256] = [
     0, 0, 0, 0, 0, 0, 0, 0, 20, 21, 22, 23, 24, 25, 26, 27,
     28, 29, 30, 31, 32, 33, 34, 35, 36, 37, 37, 38, 39, 40, 41, 42,
     43, 44, 45, 46, 47, 48, 49, 50, 51, 52, 53, 54, 55, 56, 56, 57,
@@ -46,12 +46,12 @@ impl Model for Transition {
 
 impl Transition {
     /// The table of a stream that codes no deltas. It keeps the states 8 to 248.
-    pub fn usual() -> Transition
-        ensures table { result ≡ USUAL }
+    pub fn default_table() -> Transition
+        ensures table { result ≡ DEFAULT_TRANSITION }
         ensures sound { IsTransition result }
         ensures kept { (state : ℕ) → IsKept result state ↔ ((8 ≤ state) × (state ≤ 248)) }
     {
-        with_entries(USUAL)
+        with_entries(DEFAULT_TRANSITION)
     }
 }
 

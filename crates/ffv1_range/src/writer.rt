@@ -1,12 +1,12 @@
 //! Writing bits and symbols. RFC 9043 sections 3.8.1.1 and 3.8.1.2.
 ghost use Rattle.std.specs.Prelude.{◌≡◌, ℕ, ◌+◌, ◌*◌, ◌/◌, ◌^◌, ◌<◌, ◌≤◌, if◌then◌else◌, IfOk, OnOk, OnErr, List, [], ◌∷◌, ◌++◌, true, false, length, replicate, slice_index, take, min, nat_abs, vec_len};
 ghost use Rattle.ffv1_range.specs.Transition.{IsTransition, IsKept, AllKept, next_state, moved};
-ghost use Rattle.ffv1_range.specs.Writing.{started, put, put_all, part, closed};
+ghost use Rattle.ffv1_range.specs.Writing.{started, put, put_all, part, with_sentinel};
 ghost use Rattle.ffv1_range.specs.Symbol.{spelling, magnitude_bits, exponent_of, is_negative, with_states, set_after, ones, low_bits};
-ghost use Rattle.ffv1_range.specs.Law.{IsSpelled};
+ghost use Rattle.ffv1_range.specs.Law.{IsSpelled, IsReadBack};
 ghost use Rattle.ffv1_range.specs.Cursor.{writing_at, IsSound};
 
-use crate::cursor::{Cursor, close, end, write_bit};
+use crate::cursor::{Cursor, end, put_sentinel, write_bit};
 use crate::states::States;
 use crate::transition::Transition;
 use std::alloc::{AllocError, Global};
@@ -123,9 +123,18 @@ impl<'a> RangeWriter<'a> {
         Ok(())
     }
 
-    /// The bytes of what was written, after a closing bit 0 with state 129 where there is to be one.
+    /// The bytes of what was written, in Sentinel mode after a bit 0 with state 129. In Closed mode its bytes alone are read again
+    /// as the bits, and zeros after them; in Sentinel mode whatever bytes may follow. RFC 9043 section 3.8.1.1.1.
     pub fn finish(self, sentinel: bool) -> Result<Vec<u8>, AllocError>
-        ensures { IfOk result (λ bytes. bytes.items ≡ part (if sentinel then closed self.entry else self.entry)) }
+        ensures bytes { IfOk result (λ bytes. bytes.items ≡ part (if sentinel then with_sentinel self.entry else self.entry)) }
+        ensures read_back { IfOk result (λ bytes. IsReadBack sentinel self.entry bytes.items) }
+    {
+        let bytes = self.ended(sentinel)?;
+        Ok(bytes)
+    }
+
+    fn ended(self, sentinel: bool) -> Result<Vec<u8>, AllocError>
+        ensures { IfOk result (λ bytes. bytes.items ≡ part (if sentinel then with_sentinel self.entry else self.entry)) }
     {
         let RangeWriter {
             table: _,
@@ -133,7 +142,7 @@ impl<'a> RangeWriter<'a> {
             at,
         } = self;
         make_room(&mut bytes, at.used, 2)?;
-        let at = close(bytes.as_mut_slice(), at, sentinel);
+        let at = put_sentinel(bytes.as_mut_slice(), at, sentinel);
         end(bytes.as_mut_slice(), at);
         bytes.truncate(at.used + 1);
         Ok(bytes)

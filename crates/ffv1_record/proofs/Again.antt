@@ -1,6 +1,6 @@
 -- Fields that were written are read again, one after the other.
 use Rattle.std.proofs.Common.{◌≡◌, ℕ, ◌^◌, ◌<◌, Bool, true, false, cond, ltb, eqb, ℤ, pos, nat_abs, List, [], ◌∷◌, ◌++◌, Some, Result, Ok, refl, sym, ap, subst, ◌∙◌, append_assoc}
-use Rattle.ffv1_range.specs.declared.transition.TheConstants.{USUAL}
+use Rattle.ffv1_range.specs.declared.transition.TheConstants.{DEFAULT_TRANSITION}
 use Rattle.ffv1_range.specs.Reading.{Reading, bit_of, after_bit, narrowed, renewed, bits_read, after_bits}
 use Rattle.ffv1_range.specs.Symbol.{Source, source, Reads, spelling, symbol_at, bit_at_place, after_place, with_states, set_after}
 use Rattle.ffv1_range.specs.Law.{states_of, bits_of, CodesInTurn, ReadsSymbols}
@@ -54,26 +54,26 @@ Rest = List ℕ → List (ℕ × Bool)
 
 -- At a source the bits of fields are read next, and then what follows them.
 pub record Ahead (s : Source) (bits : List (ℕ × Bool)) (rest : Rest) : Type 0 where
-  pub usual : s.reading.table ≡ USUAL
-  pub stands : Stands s.reading (with_states USUAL s.set bits ++ rest (set_after USUAL s.set bits))
+  pub default : s.reading.table ≡ DEFAULT_TRANSITION
+  pub stands : Stands s.reading (with_states DEFAULT_TRANSITION s.set bits ++ rest (set_after DEFAULT_TRANSITION s.set bits))
 
 -- the source after bits
 abbrev pub past : Source → List (ℕ × Bool) → Source
-past s bits = source (after_bits s.reading (states_of (with_states USUAL s.set bits))) (set_after USUAL s.set bits)
+past s bits = source (after_bits s.reading (states_of (with_states DEFAULT_TRANSITION s.set bits))) (set_after DEFAULT_TRANSITION s.set bits)
 
 pub Ahead-append : (laws : Laws) (s : Source) (a b : List (ℕ × Bool)) (rest : Rest) → Ahead s (a ++ b) rest → Reads s a (past s a) × Ahead (past s a) b rest
 Ahead-append laws s a b rest ahead =
-    let coded : List (ℕ × Bool) = with_states USUAL s.set a in
-    let others : List (ℕ × Bool) = with_states USUAL (set_after USUAL s.set a) b in
-    let after : List (ℕ × Bool) = rest (set_after USUAL (set_after USUAL s.set a) b) in
-    let split : with_states USUAL s.set (a ++ b) ++ rest (set_after USUAL s.set (a ++ b)) ≡ coded ++ (others ++ after) =
-    ap (λ (set : List ℕ). with_states USUAL s.set (a ++ b) ++ rest set) (set_after-append USUAL s.set a b)
-    ∙ ap (λ (x : List (ℕ × Bool)). x ++ after) (with_states-append USUAL s.set a b)
+    let coded : List (ℕ × Bool) = with_states DEFAULT_TRANSITION s.set a in
+    let others : List (ℕ × Bool) = with_states DEFAULT_TRANSITION (set_after DEFAULT_TRANSITION s.set a) b in
+    let after : List (ℕ × Bool) = rest (set_after DEFAULT_TRANSITION (set_after DEFAULT_TRANSITION s.set a) b) in
+    let split : with_states DEFAULT_TRANSITION s.set (a ++ b) ++ rest (set_after DEFAULT_TRANSITION s.set (a ++ b)) ≡ coded ++ (others ++ after) =
+    ap (λ (set : List ℕ). with_states DEFAULT_TRANSITION s.set (a ++ b) ++ rest set) (set_after-append DEFAULT_TRANSITION s.set a b)
+    ∙ ap (λ (x : List (ℕ × Bool)). x ++ after) (with_states-append DEFAULT_TRANSITION s.set a b)
     ∙ append_assoc coded others after in
     let both = Stands-append s.reading coded (others ++ after) (subst (λ (x : List (ℕ × Bool)). Stands s.reading x) split ahead.stands) in
-    let turn = laws.turn s.reading s.set a (subst (λ (t : List ℕ). Stands s.reading (with_states t s.set a)) (sym ahead.usual) both.0) in (
-      subst (λ (t : List ℕ). Reads s a (source (after_bits s.reading (states_of (with_states t s.set a))) (set_after t s.set a))) ahead.usual turn,
-      record { usual = after_bits-table s.reading (states_of coded) ∙ ahead.usual; stands = both.1 },
+    let turn = laws.turn s.reading s.set a (subst (λ (t : List ℕ). Stands s.reading (with_states t s.set a)) (sym ahead.default) both.0) in (
+      subst (λ (t : List ℕ). Reads s a (source (after_bits s.reading (states_of (with_states t s.set a))) (set_after t s.set a))) ahead.default turn,
+      record { default = after_bits-table s.reading (states_of coded) ∙ ahead.default; stands = both.1 },
     )
 
 -- ---- fields of one symbol or bit

@@ -8,7 +8,7 @@ use Rattle.std.proofs.lemmas.List.Elements.{recursion_from_All}
 use Rattle.pic_planes.specs.declared.shape.Chroma.{Chroma}
 use Rattle.pic_planes.specs.declared.shape.Chroma.TheVariants.{Grey, Shifts}
 use Rattle.pic_planes.specs.Shape.{AreShifts}
-use Rattle.ffv1_range.specs.declared.transition.TheConstants.{USUAL}
+use Rattle.ffv1_range.specs.declared.transition.TheConstants.{DEFAULT_TRANSITION}
 use Rattle.ffv1_range.specs.Reading.{Reading}
 use Rattle.ffv1_range.specs.Symbol.{Source, source, after_place, with_states}
 use Rattle.ffv1_record.specs.declared.fault.RecordFault.TheVariants as faults
@@ -130,38 +130,38 @@ runs_again laws s (suc most) left (run ∷ lengths) more rest some whole room sm
 
 -- ---- sets of tables
 -- A table's runs stand next with a fresh set.
-tables-parts : (table : List ℕ) (more : List (List ℕ)) (rest : List (ℕ × Bool)) → coded_tables (table ∷ more) ++ rest ≡ with_states USUAL fresh (runs table ++ []) ++ (coded_tables more ++ rest)
+tables-parts : (table : List ℕ) (more : List (List ℕ)) (rest : List (ℕ × Bool)) → coded_tables (table ∷ more) ++ rest ≡ with_states DEFAULT_TRANSITION fresh (runs table ++ []) ++ (coded_tables more ++ rest)
 unfolding coded_tables
 tables-parts table more rest =
-    append_assoc (with_states USUAL fresh (runs table)) (coded_tables more) rest
-    ∙ ap (λ (bits : List (ℕ × Bool)). with_states USUAL fresh bits ++ (coded_tables more ++ rest)) (sym (append-nil (runs table)))
+    append_assoc (with_states DEFAULT_TRANSITION fresh (runs table)) (coded_tables more) rest
+    ∙ ap (λ (bits : List (ℕ × Bool)). with_states DEFAULT_TRANSITION fresh bits ++ (coded_tables more ++ rest)) (sym (append-nil (runs table)))
 
 pub table_again : (laws : Laws) (s : Source) (scale : ℕ) (table : List ℕ) (rest : List (ℕ × Bool)) → AreRuns table → next_scale scale table ≤ 32768 → Ahead (source s.reading fresh) (runs table ++ []) (λ _. rest)
-    → (after : Reading) × (table_at scale s ≡ Ok ((table, next_scale scale table), source after s.set)) × (after.table ≡ USUAL) × Stands after rest
+    → (after : Reading) × (table_at scale s ≡ Ok ((table, next_scale scale table), source after s.set)) × (after.table ≡ DEFAULT_TRANSITION) × Stands after rest
 unfolding table_at
 table_again laws s scale table rest sound small ahead =
     let some : AllByRecursion (λ run. 0 < run) table = recursion_from_All (λ run. 0 < run) table sound.some in
     let read = runs_again laws (source s.reading fresh) 128 128 table [] (λ _. rest) some sound.whole (omega arith) (omega arith) ahead in
     let fits : leb (next_scale scale table) 32768 ≡ true = le-leb (next_scale scale table) 32768 small in
-    (read.0.reading, rw (read.1, fits) refl, read.2.usual, read.2.stands)
+    (read.0.reading, rw (read.1, fits) refl, read.2.default, read.2.stands)
 
-pub tables_again : (laws : Laws) (s : Source) (scale : ℕ) (tables : List (List ℕ)) (rest : List (ℕ × Bool)) → AllByRecursion AreRuns tables → ScalesFit scale tables → s.reading.table ≡ USUAL → Stands s.reading (coded_tables tables ++ rest)
-    → (after : Reading) × (tables_at (length tables) scale s ≡ Ok (tables, source after s.set)) × (after.table ≡ USUAL) × Stands after rest
+pub tables_again : (laws : Laws) (s : Source) (scale : ℕ) (tables : List (List ℕ)) (rest : List (ℕ × Bool)) → AllByRecursion AreRuns tables → ScalesFit scale tables → s.reading.table ≡ DEFAULT_TRANSITION → Stands s.reading (coded_tables tables ++ rest)
+    → (after : Reading) × (tables_at (length tables) scale s ≡ Ok (tables, source after s.set)) × (after.table ≡ DEFAULT_TRANSITION) × Stands after rest
 unfolding tables_at coded_tables
-tables_again laws s scale [] rest sound fit usual stands = (s.reading, refl, usual, stands)
-tables_again laws s scale (table ∷ more) rest sound fit usual stands =
-    let ahead : Ahead (source s.reading fresh) (runs table ++ []) (λ _. coded_tables more ++ rest) = record { usual = usual; stands = subst (λ (coded : List (ℕ × Bool)). Stands s.reading coded) (tables-parts table more rest) stands } in
+tables_again laws s scale [] rest sound fit default stands = (s.reading, refl, default, stands)
+tables_again laws s scale (table ∷ more) rest sound fit default stands =
+    let ahead : Ahead (source s.reading fresh) (runs table ++ []) (λ _. coded_tables more ++ rest) = record { default = default; stands = subst (λ (coded : List (ℕ × Bool)). Stands s.reading coded) (tables-parts table more rest) stands } in
     let first = table_again laws s scale table (coded_tables more ++ rest) sound.0 fit.0 ahead in
     let others = tables_again laws (source first.0 s.set) (next_scale scale table) more rest sound.1 fit.1 first.2 first.3 in
     (others.0, rw (first.1, others.1) refl, others.2, others.3)
 
-pub sets_again : (laws : Laws) (s : Source) (sets : List (List (List ℕ))) (rest : List (ℕ × Bool)) → AllByRecursion AreSetRuns sets → s.reading.table ≡ USUAL → Stands s.reading (coded_sets sets ++ rest)
-    → (after : Reading) × (sets_at (length sets) s ≡ Ok (sets, source after s.set)) × (after.table ≡ USUAL) × Stands after rest
+pub sets_again : (laws : Laws) (s : Source) (sets : List (List (List ℕ))) (rest : List (ℕ × Bool)) → AllByRecursion AreSetRuns sets → s.reading.table ≡ DEFAULT_TRANSITION → Stands s.reading (coded_sets sets ++ rest)
+    → (after : Reading) × (sets_at (length sets) s ≡ Ok (sets, source after s.set)) × (after.table ≡ DEFAULT_TRANSITION) × Stands after rest
 unfolding sets_at coded_sets
-sets_again laws s [] rest sound usual stands = (s.reading, refl, usual, stands)
-sets_again laws s (set ∷ more) rest sound usual stands =
+sets_again laws s [] rest sound default stands = (s.reading, refl, default, stands)
+sets_again laws s (set ∷ more) rest sound default stands =
     let parts : Stands s.reading (coded_tables set ++ (coded_sets more ++ rest)) = subst (λ (coded : List (ℕ × Bool)). Stands s.reading coded) (append_assoc (coded_tables set) (coded_sets more) rest) stands in
-    let first = tables_again laws s 1 set (coded_sets more ++ rest) (recursion_from_All AreRuns set sound.0.each) sound.0.scales usual parts in
+    let first = tables_again laws s 1 set (coded_sets more ++ rest) (recursion_from_All AreRuns set sound.0.each) sound.0.scales default parts in
     let five : tables_at 5 1 s ≡ Ok (set, source first.0 s.set) = subst (λ n. tables_at n 1 s ≡ Ok (set, source first.0 s.set)) sound.0.five first.1 in
     let others = sets_again laws (source first.0 s.set) more rest sound.1 first.2 first.3 in
     (others.0, rw (five, others.1) refl, others.2, others.3)

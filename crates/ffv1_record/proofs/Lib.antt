@@ -7,3 +7,5 @@ pub mod Deltas
 pub mod States
 pub mod Round
 pub mod Defaults
+pub mod Runs
+pub mod Contexts

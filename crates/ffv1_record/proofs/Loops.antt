@@ -21,28 +21,28 @@ with_front-nothing : {A : Type 0} (front : List A) (s : Source) → with_front f
 with_front-nothing {A} front s = ap (λ (ns : List A). Ok (ns, s)) (append-nil front)
 
 -- ---- entries
-pub entries-next : (front usual : List ℕ) (i entry : ℕ) (s after : Source) (total : Result (List ℕ × Source) RecordFault) → i < length usual → entry_at (get_or usual i 0) s ≡ Ok (entry, after)
-    → with_front front (entries_at (drop i usual) s) ≡ total → with_front (front ++ entry ∷ []) (entries_at (drop (i + 1) usual) after) ≡ total
+pub entries-next : (front default : List ℕ) (i entry : ℕ) (s after : Source) (total : Result (List ℕ × Source) RecordFault) → i < length default → entry_at (get_or default i 0) s ≡ Ok (entry, after)
+    → with_front front (entries_at (drop i default) s) ≡ total → with_front (front ++ entry ∷ []) (entries_at (drop (i + 1) default) after) ≡ total
 unfolding entries_at
-entries-next front usual i entry s after total lt h so_far =
-    let split : drop i usual ≡ get_or usual i 0 ∷ drop (suc i) usual = drop-cons usual i 0 lt in
-    let one : with_front front (entries_at (drop i usual) s) ≡ with_front (front ++ entry ∷ []) (entries_at (drop (suc i) usual) after) = rw (split, h) (regroup front entry (entries_at (drop (suc i) usual) after)) in
+entries-next front default i entry s after total lt h so_far =
+    let split : drop i default ≡ get_or default i 0 ∷ drop (suc i) default = drop-cons default i 0 lt in
+    let one : with_front front (entries_at (drop i default) s) ≡ with_front (front ++ entry ∷ []) (entries_at (drop (suc i) default) after) = rw (split, h) (regroup front entry (entries_at (drop (suc i) default) after)) in
     rw add-one (sym one ∙ so_far)
 
-pub entries-end : (fault : RecordFault) (front usual : List ℕ) (i : ℕ) (s : Source) (total : Result (List ℕ × Source) RecordFault) → i < length usual → Fails fault (entry_at (get_or usual i 0) s)
-    → with_front front (entries_at (drop i usual) s) ≡ total → Fails fault total
+pub entries-end : (fault : RecordFault) (front default : List ℕ) (i : ℕ) (s : Source) (total : Result (List ℕ × Source) RecordFault) → i < length default → Fails fault (entry_at (get_or default i 0) s)
+    → with_front front (entries_at (drop i default) s) ≡ total → Fails fault total
 unfolding entries_at
-entries-end fault front usual i s total lt h so_far = λ other.
-    let split : drop i usual ≡ get_or usual i 0 ∷ drop (suc i) usual = drop-cons usual i 0 lt in
-    let fails : entry_at (get_or usual i 0) s ≡ Err fault = h other in
-    let one : with_front front (entries_at (drop i usual) s) ≡ Err fault = rw (split, fails) refl in
+entries-end fault front default i s total lt h so_far = λ other.
+    let split : drop i default ≡ get_or default i 0 ∷ drop (suc i) default = drop-cons default i 0 lt in
+    let fails : entry_at (get_or default i 0) s ≡ Err fault = h other in
+    let one : with_front front (entries_at (drop i default) s) ≡ Err fault = rw (split, fails) refl in
     sym so_far ∙ one
 
-pub entries-done : (front usual : List ℕ) (i : ℕ) (s : Source) (total : Result (List ℕ × Source) RecordFault) → length usual ≤ i → with_front front (entries_at (drop i usual) s) ≡ total → total ≡ Ok (front, s)
+pub entries-done : (front default : List ℕ) (i : ℕ) (s : Source) (total : Result (List ℕ × Source) RecordFault) → length default ≤ i → with_front front (entries_at (drop i default) s) ≡ total → total ≡ Ok (front, s)
 unfolding entries_at
-entries-done front usual i s total le so_far =
-    let nothing : drop i usual ≡ [] = drop_all i usual le in
-    let one : with_front front (entries_at (drop i usual) s) ≡ Ok (front, s) = rw nothing (with_front-nothing front s) in
+entries-done front default i s total le so_far =
+    let nothing : drop i default ≡ [] = drop_all i default le in
+    let one : with_front front (entries_at (drop i default) s) ≡ Ok (front, s) = rw nothing (with_front-nothing front s) in
     sym so_far ∙ one
 
 -- ---- sets

@@ -8,12 +8,12 @@ use Rattle.byteorder.specs.Endian.{big_number, big_bytes}
 use Rattle.tl_base.specs.Parity.{parity}
 use Rattle.pic_planes.specs.declared.shape.Chroma.{Chroma}
 use Rattle.pic_planes.specs.Shape.{AreShifts}
-use Rattle.ffv1_range.specs.declared.transition.TheConstants.{USUAL}
+use Rattle.ffv1_range.specs.declared.transition.TheConstants.{DEFAULT_TRANSITION}
 use Rattle.ffv1_range.specs.Transition.{IsTransition}
 use Rattle.ffv1_range.specs.Reading.{Reading, opened}
 use Rattle.ffv1_range.specs.Writing.{Writing, started, chosen, shifted, put, put_all, part}
 use Rattle.ffv1_range.specs.Symbol.{Source, source, spelling, magnitude_bits, ones, low_bits, with_states, set_after}
-use Rattle.ffv1_range.specs.Law.{written, ReadsOpenPart}
+use Rattle.ffv1_range.specs.Law.{written, ReadsClosedMode}
 use Rattle.ffv1_record.specs.Reading.{fresh, fields_at, all_sets_at, parameters, has_parity}
 use Rattle.ffv1_record.specs.Tables.{AreSetRuns, AreSets, set_of}
 use Rattle.ffv1_record.specs.Parameters.{Parameters, parameters_of, runs_of, IsGrid, IsTableFor, IsRecord}
@@ -27,7 +27,7 @@ use Rattle.ffv1_record.proofs.States.{coded-states}
 
 -- ---- the tables and what follows them
 abbrev rest_of : List (List (List ℕ)) → List (ℕ × Bool) → Rest
-rest_of sets after = λ set. coded_sets sets ++ with_states USUAL set after
+rest_of sets after = λ set. coded_sets sets ++ with_states DEFAULT_TRANSITION set after
 
 all_sets_again : (laws : Laws) (s : Source) (sets : List (List (List ℕ))) (more : List (ℕ × Bool)) → AreSets sets → Ahead s (number (length sets)) (rest_of sets (flags (length sets) ++ more)) → Again (all_sets_at s) sets more (λ _. [])
 unfolding all_sets_at
@@ -36,8 +36,8 @@ all_sets_again laws s sets more sound ahead =
     let rest : Rest = rest_of sets (flags n ++ more) in
     let ahead₀ : Ahead s (number n ++ []) rest = subst (λ (bits : List (ℕ × Bool)). Ahead s bits rest) (sym (append-nil (number n))) ahead in
     let count = number_again laws s n [] rest (omega (arith, sound.few)) ahead₀ in
-    let read = sets_again laws count.0 sets (with_states USUAL count.0.set (flags n ++ more)) (recursion_from_All AreSetRuns sets sound.each) count.2.usual count.2.stands in
-    let next : Ahead (source read.0 count.0.set) (flags n ++ more) (λ _. []) = record { usual = read.2; stands = subst (λ (x : List (ℕ × Bool)). Stands read.0 x) (sym (append-nil (with_states USUAL count.0.set (flags n ++ more)))) read.3 } in
+    let read = sets_again laws count.0 sets (with_states DEFAULT_TRANSITION count.0.set (flags n ++ more)) (recursion_from_All AreSetRuns sets sound.each) count.2.default count.2.stands in
+    let next : Ahead (source read.0 count.0.set) (flags n ++ more) (λ _. []) = record { default = read.2; stands = subst (λ (x : List (ℕ × Bool)). Stands read.0 x) (sym (append-nil (with_states DEFAULT_TRANSITION count.0.set (flags n ++ more)))) read.3 } in
     let states = states_again laws (source read.0 count.0.set) n more (λ _. []) next in
     let some : leb 1 n ≡ true = le-leb 1 n sound.some in
     let few : leb n 8 ≡ true = le-leb n 8 sound.few in
@@ -47,26 +47,26 @@ ending-parts : (a b c : List (ℕ × Bool)) → a ++ b ++ c ≡ a ++ (b ++ (c ++
 ending-parts a b c = append_assoc a b c ∙ ap (λ (x : List (ℕ × Bool)). a ++ (b ++ x)) (sym (append-nil c))
 
 -- ---- all fields
-fields_again : (laws : Laws) (usual : IsTransition USUAL) (r : Reading) (coder_type : ℕ) (table : List ℕ) (shifts : Chroma) (columns rows : ℕ) (sets : List (List (List ℕ))) (ec : Bool) (intra : ℕ)
+fields_again : (laws : Laws) (default : IsTransition DEFAULT_TRANSITION) (r : Reading) (coder_type : ℕ) (table : List ℕ) (shifts : Chroma) (columns rows : ℕ) (sets : List (List (List ℕ))) (ec : Bool) (intra : ℕ)
     → IsTableFor coder_type table → AreShifts shifts → IsGrid columns rows → AreSets sets → intra < 2 ^ 32
-    → r.table ≡ USUAL → Stands r (coded (parameters_of coder_type table shifts columns rows sets ec intra))
+    → r.table ≡ DEFAULT_TRANSITION → Stands r (coded (parameters_of coder_type table shifts columns rows sets ec intra))
     → fields_at (source r fresh) ≡ Ok (parameters_of coder_type table shifts columns rows sets ec intra)
 unfolding fields_at coded before_tables ending
-fields_again laws usual r coder_type table shifts columns rows sets ec intra table_sound shifts_sound grid_sound sets_sound intra_small is_usual stands =
+fields_again laws default r coder_type table shifts columns rows sets ec intra table_sound shifts_sound grid_sound sets_sound intra_small is_default stands =
     let first = coding coder_type table in
     let second = planes 8 shifts in
     let n = length sets in
     let third = grid columns rows n in
     let last = flags n ++ (number (cond ec 1 0) ++ (number intra ++ [])) in
     let rest : Rest = rest_of sets last in
-    let form : List (List (List ℕ)) → ℕ → List (ℕ × Bool) = λ rs m. with_states USUAL fresh (first ++ second ++ grid columns rows m) ++ (coded_sets rs ++ with_states USUAL (set_after USUAL fresh (first ++ second ++ grid columns rows m)) (flags m ++ number (cond ec 1 0) ++ number intra)) in
+    let form : List (List (List ℕ)) → ℕ → List (ℕ × Bool) = λ rs m. with_states DEFAULT_TRANSITION fresh (first ++ second ++ grid columns rows m) ++ (coded_sets rs ++ with_states DEFAULT_TRANSITION (set_after DEFAULT_TRANSITION fresh (first ++ second ++ grid columns rows m)) (flags m ++ number (cond ec 1 0) ++ number intra)) in
     let whole : Stands r (form sets n) = subst (λ m. Stands r (form sets m)) (length-map sets set_of) (subst (λ (rs : List (List (List ℕ))). Stands r (form rs (length (map set_of sets)))) (runs_of-sets sets) stands) in
-    let parted : Stands r (with_states USUAL fresh (first ++ second ++ third) ++ rest (set_after USUAL fresh (first ++ second ++ third))) = subst (λ (after : List (ℕ × Bool)). Stands r (with_states USUAL fresh (first ++ second ++ third) ++ rest_of sets after (set_after USUAL fresh (first ++ second ++ third)))) (ending-parts (flags n) (number (cond ec 1 0)) (number intra)) whole in
+    let parted : Stands r (with_states DEFAULT_TRANSITION fresh (first ++ second ++ third) ++ rest (set_after DEFAULT_TRANSITION fresh (first ++ second ++ third))) = subst (λ (after : List (ℕ × Bool)). Stands r (with_states DEFAULT_TRANSITION fresh (first ++ second ++ third) ++ rest_of sets after (set_after DEFAULT_TRANSITION fresh (first ++ second ++ third)))) (ending-parts (flags n) (number (cond ec 1 0)) (number intra)) whole in
     let s : Source = source r fresh in
-    let all : Ahead s (first ++ second ++ third) rest = record { usual = is_usual; stands = parted } in
+    let all : Ahead s (first ++ second ++ third) rest = record { default = is_default; stands = parted } in
     let ahead : Ahead s (first ++ (second ++ third)) rest = subst (λ (bits : List (ℕ × Bool)). Ahead s bits rest) (append_assoc first second third) all in
     let coder_read = coder_again laws s coder_type table (second ++ third) rest table_sound.coder ahead in
-    let table_read = transition_again laws usual coder_read.0 coder_type table (second ++ third) rest table_sound coder_read.2 in
+    let table_read = transition_again laws default coder_read.0 coder_type table (second ++ third) rest table_sound coder_read.2 in
     let bits_read = bits_again laws table_read.0 shifts third rest table_read.2 in
     let chroma_read = chroma_again laws bits_read.0 shifts third rest shifts_sound bits_read.2 in
     let grid_read = grid_again laws chroma_read.0 columns rows n rest grid_sound chroma_read.2 in
@@ -94,9 +94,9 @@ put_all-count w [] = omega arith
 put_all-count w (bit ∷ coded) = omega (arith, put-count w bit.0 bit.1, put_all-count (put w bit.0 bit.1) coded)
 
 abbrev opening : List (ℕ × Bool)
-opening = with_states USUAL fresh (number 3 ++ number 4)
+opening = with_states DEFAULT_TRANSITION fresh (number 3 ++ number 4)
 
-opening-count : (put_all (started USUAL) opening).count ≡ 3
+opening-count : (put_all (started DEFAULT_TRANSITION) opening).count ≡ 3
 unfolding put shifted chosen started number spelling magnitude_bits ones low_bits lib.Count.count_leading_zeros
 opening-count = refl
 
@@ -105,16 +105,16 @@ unfolding coded before_tables coding
 coded-opening p =
     let start = number 3 ++ number 4 in
     let second = number p.coder_type ++ (transition p.coder_type p.transition ++ (planes p.bits_per_sample p.chroma ++ grid p.columns p.rows (length p.sets))) in
-    let others = coded_sets (runs_of p) ++ with_states USUAL (set_after USUAL fresh (before_tables p)) (after_tables p) in
+    let others = coded_sets (runs_of p) ++ with_states DEFAULT_TRANSITION (set_after DEFAULT_TRANSITION fresh (before_tables p)) (after_tables p) in
     let before : before_tables p ≡ start ++ second = simp append_assoc in
-    let split : with_states USUAL fresh (before_tables p) ≡ opening ++ with_states USUAL (set_after USUAL fresh start) second = ap (with_states USUAL fresh) before ∙ with_states-append USUAL fresh start second in
-    (with_states USUAL (set_after USUAL fresh start) second ++ others, ap (λ (x : List (ℕ × Bool)). x ++ others) split ∙ append_assoc opening (with_states USUAL (set_after USUAL fresh start) second) others)
+    let split : with_states DEFAULT_TRANSITION fresh (before_tables p) ≡ opening ++ with_states DEFAULT_TRANSITION (set_after DEFAULT_TRANSITION fresh start) second = ap (with_states DEFAULT_TRANSITION fresh) before ∙ with_states-append DEFAULT_TRANSITION fresh start second in
+    (with_states DEFAULT_TRANSITION (set_after DEFAULT_TRANSITION fresh start) second ++ others, ap (λ (x : List (ℕ × Bool)). x ++ others) split ∙ append_assoc opening (with_states DEFAULT_TRANSITION (set_after DEFAULT_TRANSITION fresh start) second) others)
 
-many-bytes : (p : Parameters) → 3 ≤ (written USUAL (coded p)).count
+many-bytes : (p : Parameters) → 3 ≤ (written DEFAULT_TRANSITION (coded p)).count
 many-bytes p =
     let split = coded-opening p in
-    let same : written USUAL (coded p) ≡ put_all (put_all (started USUAL) opening) split.0 = ap (put_all (started USUAL)) split.1 ∙ put_all-append (started USUAL) opening split.0 in
-    rw same (omega (arith, opening-count, put_all-count (put_all (started USUAL) opening) split.0))
+    let same : written DEFAULT_TRANSITION (coded p) ≡ put_all (put_all (started DEFAULT_TRANSITION) opening) split.0 = ap (put_all (started DEFAULT_TRANSITION)) split.1 ∙ put_all-append (started DEFAULT_TRANSITION) opening split.0 in
+    rw same (omega (arith, opening-count, put_all-count (put_all (started DEFAULT_TRANSITION) opening) split.0))
 
 length-part : (w : Writing) → length (part w) ≡ w.count - 1
 unfolding part
@@ -122,7 +122,7 @@ length-part w = length-bytes_high_first (w.count - 1) ((w.low + 255) / 256)
 
 -- ---- the parity
 parted_again : (numbers : (count n : ℕ) (rest : List ℕ) → n < 256 ^ count → big_number count (big_bytes count n ++ rest) ≡ n) (small : (bytes : List ℕ) → parity bytes < 2 ^ 32) (bytes : List ℕ)
-    → 2 ≤ length bytes → parameters (with_parity bytes) ≡ fields_at (source (opened USUAL bytes) fresh)
+    → 2 ≤ length bytes → parameters (with_parity bytes) ≡ fields_at (source (opened DEFAULT_TRANSITION bytes) fresh)
 unfolding parameters with_parity
 parted_again numbers small bytes long =
     let last = big_bytes 4 (parity bytes) in
@@ -134,19 +134,19 @@ parted_again numbers small bytes long =
     let dropped : drop (length (bytes ++ last) - 4) (bytes ++ last) ≡ last = ap (λ n. drop n (bytes ++ last)) front ∙ drop_at bytes last (length bytes) refl in
     let read : big_number 4 last ≡ parity bytes = ap (big_number 4) (sym (append-nil last)) ∙ numbers 4 (parity bytes) [] (small bytes) in
     let right : has_parity (bytes ++ last) ≡ true = eq-eqb _ _ (ap (big_number 4) dropped ∙ read ∙ sym (ap parity taken)) in
-    rw (long_enough, right) (ap (λ (x : List ℕ). fields_at (source (opened USUAL x) fresh)) taken)
+    rw (long_enough, right) (ap (λ (x : List ℕ). fields_at (source (opened DEFAULT_TRANSITION x) fresh)) taken)
 
-pub record_again : (laws : Laws) (open_part : ReadsOpenPart) (usual : IsTransition USUAL) (numbers : (count n : ℕ) (rest : List ℕ) → n < 256 ^ count → big_number count (big_bytes count n ++ rest) ≡ n) (small : (bytes : List ℕ) → parity bytes < 2 ^ 32)
+pub record_again : (laws : Laws) (open_part : ReadsClosedMode) (default : IsTransition DEFAULT_TRANSITION) (numbers : (count n : ℕ) (rest : List ℕ) → n < 256 ^ count → big_number count (big_bytes count n ++ rest) ≡ n) (small : (bytes : List ℕ) → parity bytes < 2 ^ 32)
     (p : Parameters) → IsRecord p → parameters (record_bytes p) ≡ Ok p
 unfolding record_bytes opened
-record_again laws open_part usual numbers small p sound =
+record_again laws open_part default numbers small p sound =
     let made : p ≡ parameters_of p.coder_type p.transition p.chroma p.columns p.rows (runs_of p) p.ec p.intra = parts p sound.bits sound.tables in
-    let content = part (written USUAL (coded p)) in
-    let long : 2 ≤ length content = omega (arith, length-part (written USUAL (coded p)), many-bytes p) in
-    let r : Reading = opened USUAL content in
-    let back = open_part USUAL (coded p) (coded-states usual p) in
+    let content = part (written DEFAULT_TRANSITION (coded p)) in
+    let long : 2 ≤ length content = omega (arith, length-part (written DEFAULT_TRANSITION (coded p)), many-bytes p) in
+    let r : Reading = opened DEFAULT_TRANSITION content in
+    let back = open_part DEFAULT_TRANSITION (coded p) (coded-states default p) in
     let stands : Stands r (coded (parameters_of p.coder_type p.transition p.chroma p.columns p.rows (runs_of p) p.ec p.intra)) = subst (λ (q : Parameters). Stands r (coded q)) made back.bits in
-    let read = fields_again laws usual r p.coder_type p.transition p.chroma p.columns p.rows (runs_of p) p.ec p.intra sound.table sound.chroma sound.grid sound.sets sound.intra refl stands in
+    let read = fields_again laws default r p.coder_type p.transition p.chroma p.columns p.rows (runs_of p) p.ec p.intra sound.table sound.chroma sound.grid sound.sets sound.intra refl stands in
     parted_again numbers small content long ∙ read ∙ ap (λ (q : Parameters). Ok q) (sym made)
   where
     parts : (p : Parameters) → p.bits_per_sample ≡ 8 → p.sets ≡ map set_of (runs_of p) → p ≡ parameters_of p.coder_type p.transition p.chroma p.columns p.rows (runs_of p) p.ec p.intra

@@ -52,11 +52,11 @@ pub in_turn_4 : (w w₁ w₂ w₃ w₄ : Sink) (a b c d : List (ℕ × Bool)) �
 in_turn_4 w w₁ w₂ w₃ w₄ a b c d first second third fourth = appended w w₃ w₄ (a ++ b ++ c) d fourth (in_turn_3 w w₁ w₂ w₃ a b c first second third)
 
 -- ---- loops: what is left to write after so many
-pub deltas-next : (usual entries : List ℕ) (i : ℕ) → length usual ≡ length entries → i < length usual → deltas (drop i usual) (drop i entries) ≡ spelling (pos (get_or entries i 0) +ℤ neg_ℤ (pos (get_or usual i 0))) true ++ deltas (drop (i + 1) usual) (drop (i + 1) entries)
+pub deltas-next : (default entries : List ℕ) (i : ℕ) → length default ≡ length entries → i < length default → deltas (drop i default) (drop i entries) ≡ spelling (pos (get_or entries i 0) +ℤ neg_ℤ (pos (get_or default i 0))) true ++ deltas (drop (i + 1) default) (drop (i + 1) entries)
 unfolding deltas
-deltas-next usual entries i same lt =
+deltas-next default entries i same lt =
     let at : i < length entries = omega (arith, same) in
-    rw (drop-cons usual i 0, drop-cons entries i 0, add-one) refl
+    rw (drop-cons default i 0, drop-cons entries i 0, add-one) refl
 
 pub runs-next : (lengths : List ℕ) (i : ℕ) → i < length lengths → runs (drop i lengths) ≡ number (get_or lengths i 0 - 1) ++ runs (drop (i + 1) lengths)
 unfolding runs
@@ -76,9 +76,9 @@ step initial now next left part rest total so_far split written =
 pub finished : (initial now : Sink) (left total : List (ℕ × Bool)) → wrote now left ≡ wrote initial total → left ≡ [] → now ≡ wrote initial total
 finished initial now left total so_far none_left = sym (ap (wrote now) none_left ∙ wrote-nothing now) ∙ so_far
 
-pub deltas-done : (usual entries : List ℕ) (i : ℕ) → length usual ≤ i → deltas (drop i usual) entries ≡ []
+pub deltas-done : (default entries : List ℕ) (i : ℕ) → length default ≤ i → deltas (drop i default) entries ≡ []
 unfolding deltas
-deltas-done usual entries i le = rw (drop_all i usual le) refl
+deltas-done default entries i le = rw (drop_all i default le) refl
 
 pub runs-done : (lengths : List ℕ) (i : ℕ) → length lengths ≤ i → runs (drop i lengths) ≡ []
 unfolding runs

@@ -6,7 +6,7 @@ use Rattle.std.proofs.lemmas.Bool.{cases_lt}
 use Rattle.std.proofs.lemmas.List.{get_or_past, get_or-replicate}
 use Rattle.pic_planes.specs.declared.shape.Chroma.{Chroma}
 use Rattle.pic_planes.specs.declared.shape.Chroma.TheVariants.{Grey, Shifts}
-use Rattle.ffv1_range.specs.declared.transition.TheConstants.{USUAL}
+use Rattle.ffv1_range.specs.declared.transition.TheConstants.{DEFAULT_TRANSITION}
 use Rattle.ffv1_range.specs.Transition.{IsTransition, IsKept, AllKept, next_state, moved}
 use Rattle.ffv1_range.specs.Writing.{AreStates}
 use Rattle.ffv1_range.specs.Symbol.{spelling, ones, low_bits, magnitude_bits, sign_bits, exponent_of, is_negative, with_states, set_after}
@@ -60,15 +60,15 @@ flag-places : (bit : Bool) → ArePlaces (flag bit)
 unfolding flag
 flag-places bit = (omega arith, tt)
 
-deltas-places : (usual entries : List ℕ) → ArePlaces (deltas usual entries)
+deltas-places : (default entries : List ℕ) → ArePlaces (deltas default entries)
 unfolding deltas
 deltas-places [] entries = tt
-deltas-places (u ∷ usual) [] = tt
-deltas-places (u ∷ usual) (entry ∷ entries) = ArePlaces-append (spelling (pos entry +ℤ neg_ℤ (pos u)) true) (deltas usual entries) (spelling-places (pos entry +ℤ neg_ℤ (pos u)) true) (deltas-places usual entries)
+deltas-places (u ∷ default) [] = tt
+deltas-places (u ∷ default) (entry ∷ entries) = ArePlaces-append (spelling (pos entry +ℤ neg_ℤ (pos u)) true) (deltas default entries) (spelling-places (pos entry +ℤ neg_ℤ (pos u)) true) (deltas-places default entries)
 
 transition-places : (coder_type : ℕ) (table : List ℕ) → ArePlaces (transition coder_type table)
 unfolding transition
-transition-places coder_type table = spelling-cases (eqb coder_type 2) _ _ (deltas-places (drop 1 USUAL) (drop 1 table)) tt
+transition-places coder_type table = spelling-cases (eqb coder_type 2) _ _ (deltas-places (drop 1 DEFAULT_TRANSITION) (drop 1 table)) tt
 
 -- three groups in turn
 three-places : (a b c : List (ℕ × Bool)) → ArePlaces a → ArePlaces b → ArePlaces c → ArePlaces (a ++ b ++ c)
@@ -155,21 +155,21 @@ fresh-kept table sound k small =
     let e : slice_index (replicate 32 128) k ≡ 128 = get_or-replicate 32 k 128 0 small in
     subst (λ (state : ℕ). IsKept table state) (sym e) sound.keeps_first
 
-tables-states : (usual : IsTransition USUAL) (tables : List (List ℕ)) → AreStates (coded_tables tables)
+tables-states : (default : IsTransition DEFAULT_TRANSITION) (tables : List (List ℕ)) → AreStates (coded_tables tables)
 unfolding coded_tables
-tables-states usual [] = tt
-tables-states usual (table ∷ more) = AreStates-append (with_states USUAL fresh (runs table)) (coded_tables more) (with_states-states USUAL fresh (runs table) usual (fresh-kept USUAL usual) (runs-places table)) (tables-states usual more)
+tables-states default [] = tt
+tables-states default (table ∷ more) = AreStates-append (with_states DEFAULT_TRANSITION fresh (runs table)) (coded_tables more) (with_states-states DEFAULT_TRANSITION fresh (runs table) default (fresh-kept DEFAULT_TRANSITION default) (runs-places table)) (tables-states default more)
 
-sets-states : (usual : IsTransition USUAL) (sets : List (List (List ℕ))) → AreStates (coded_sets sets)
+sets-states : (default : IsTransition DEFAULT_TRANSITION) (sets : List (List (List ℕ))) → AreStates (coded_sets sets)
 unfolding coded_sets
-sets-states usual [] = tt
-sets-states usual (tables ∷ more) = AreStates-append (coded_tables tables) (coded_sets more) (tables-states usual tables) (sets-states usual more)
+sets-states default [] = tt
+sets-states default (tables ∷ more) = AreStates-append (coded_tables tables) (coded_sets more) (tables-states default tables) (sets-states default more)
 
-pub coded-states : (usual : IsTransition USUAL) (p : Parameters) → AreStates (coded p)
+pub coded-states : (default : IsTransition DEFAULT_TRANSITION) (p : Parameters) → AreStates (coded p)
 unfolding coded
-coded-states usual p =
-    let kept : AllKept USUAL fresh = fresh-kept USUAL usual in
-    AreStates-append (with_states USUAL fresh (before_tables p)) (coded_sets (runs_of p) ++ with_states USUAL (set_after USUAL fresh (before_tables p)) (after_tables p))
-    (with_states-states USUAL fresh (before_tables p) usual kept (before-places p))
-    (AreStates-append (coded_sets (runs_of p)) (with_states USUAL (set_after USUAL fresh (before_tables p)) (after_tables p)) (sets-states usual (runs_of p))
-    (with_states-states USUAL (set_after USUAL fresh (before_tables p)) (after_tables p) usual (set_after-kept USUAL fresh (before_tables p) usual kept (before-places p)) (ending-places (length p.sets) p.ec p.intra)))
+coded-states default p =
+    let kept : AllKept DEFAULT_TRANSITION fresh = fresh-kept DEFAULT_TRANSITION default in
+    AreStates-append (with_states DEFAULT_TRANSITION fresh (before_tables p)) (coded_sets (runs_of p) ++ with_states DEFAULT_TRANSITION (set_after DEFAULT_TRANSITION fresh (before_tables p)) (after_tables p))
+    (with_states-states DEFAULT_TRANSITION fresh (before_tables p) default kept (before-places p))
+    (AreStates-append (coded_sets (runs_of p)) (with_states DEFAULT_TRANSITION (set_after DEFAULT_TRANSITION fresh (before_tables p)) (after_tables p)) (sets-states default (runs_of p))
+    (with_states-states DEFAULT_TRANSITION (set_after DEFAULT_TRANSITION fresh (before_tables p)) (after_tables p) default (set_after-kept DEFAULT_TRANSITION fresh (before_tables p) default kept (before-places p)) (ending-places (length p.sets) p.ec p.intra)))

@@ -1,7 +1,7 @@
 -- The record of an encoder.
 use Rattle.std.specs.Prelude.{ℕ, true, List, [], ◌∷◌}
 use Rattle.pic_planes.specs.declared.shape.Chroma.{Chroma}
-use Rattle.ffv1_range.specs.declared.transition.TheConstants.{USUAL}
+use Rattle.ffv1_range.specs.declared.transition.TheConstants.{DEFAULT_TRANSITION}
 use Rattle.ffv1_record.specs.declared.record.Coder.{Coder}
 use Rattle.ffv1_record.specs.declared.record.Coder.TheVariants.{Range, Rice}
 use Rattle.ffv1_record.specs.Parameters.{Parameters, parameters_of}
@@ -22,4 +22,4 @@ abbrev pub default_runs : List (List ℕ)
 default_runs = fine_runs ∷ fine_runs ∷ fine_runs ∷ one_run ∷ one_run ∷ []
 
 abbrev pub default_parameters : Coder → Chroma → ℕ → ℕ → Parameters
-default_parameters coder chroma columns rows = parameters_of (coder_type_of coder) USUAL chroma columns rows (default_runs ∷ []) true 1
+default_parameters coder chroma columns rows = parameters_of (coder_type_of coder) DEFAULT_TRANSITION chroma columns rows (default_runs ∷ []) true 1

@@ -1,12 +1,13 @@
 -- The fields of a configuration record. RFC 9043 section 4.2.
-use Rattle.std.specs.Prelude.{◌≡◌, ℕ, ◌*◌, ◌^◌, ◌<◌, ◌≤◌, Bool, List, drop, map, All}
+use Rattle.std.specs.Prelude.{◌≡◌, ℕ, ◌*◌, ◌^◌, ◌<◌, ◌≤◌, Bool, List, [], drop, map, slice_index, slice_index_or, All, ℤ}
+use Rattle.tl_limits.specs.Limits.{max_slices}
 use Rattle.pic_planes.specs.declared.shape.Chroma.{Chroma}
 use Rattle.pic_planes.specs.Shape.{AreShifts}
-use Rattle.ffv1_range.specs.declared.transition.TheConstants.{USUAL}
+use Rattle.ffv1_range.specs.declared.transition.TheConstants.{DEFAULT_TRANSITION}
 use Rattle.ffv1_range.specs.Transition.{IsTransition}
 use Rattle.ffv1_record.specs.Tables.{TableSet, set_of, AreSets}
 
--- `transition` is the whole table of states after a bit 1: that of `coder_type` 2, else the usual one. `columns` and `rows` are
+-- `transition` is the whole table of states after a bit 1: that of `coder_type` 2, else the default one. `columns` and `rows` are
 -- num_h_slices and num_v_slices.
 pub record Parameters : Type 0 where
   pub coder_type : ℕ
@@ -28,17 +29,24 @@ parameters_of coder_type transition chroma columns rows sets ec intra =
 abbrev pub runs_of : Parameters → List (List (List ℕ))
 runs_of p = map (λ set. set.runs) p.sets
 
+-- the entries of the tables of a set, and how many contexts they give
+abbrev pub tables_of : Parameters → ℕ → List (List ℤ)
+tables_of p set = slice_index_or (map (λ s. s.tables) p.sets) set []
+
+abbrev pub context_count_of : Parameters → ℕ → ℕ
+context_count_of p set = slice_index (map (λ s. s.context_count) p.sets) set
+
 -- the grid of slices
 pub record IsGrid (columns rows : ℕ) : Type 0 where
   pub some_columns : 1 ≤ columns
   pub some_rows : 1 ≤ rows
-  pub few : columns * rows ≤ 1024
+  pub few : columns * rows ≤ max_slices
 
 -- the table of the states after a bit 1, for this coder type
 pub record IsTableFor (coder_type : ℕ) (transition : List ℕ) : Type 0 where
   pub coder : coder_type ≤ 2
   pub sound : IsTransition transition
-  pub usual : coder_type < 2 → transition ≡ USUAL
+  pub default : coder_type < 2 → transition ≡ DEFAULT_TRANSITION
   pub states : coder_type ≡ 2 → All (λ state. 0 < state) (drop 1 transition)
 
 -- what a configuration record can have

@@ -4,7 +4,7 @@ use Rattle.byteorder.specs.Endian.{big_number}
 use Rattle.tl_base.specs.Parity.{parity}
 use Rattle.pic_planes.specs.declared.shape.Chroma.{Chroma}
 use Rattle.pic_planes.specs.declared.shape.Chroma.TheVariants.{Grey, Shifts}
-use Rattle.ffv1_range.specs.declared.transition.TheConstants.{USUAL}
+use Rattle.ffv1_range.specs.declared.transition.TheConstants.{DEFAULT_TRANSITION}
 use Rattle.ffv1_range.specs.Reading.{opened}
 use Rattle.ffv1_range.specs.Symbol.{Source, source, bit_at_place, after_place, symbol_at}
 use Rattle.ffv1_record.specs.declared.fault.RecordFault.{RecordFault}
@@ -59,24 +59,24 @@ coder_at s = do
   coder ← number_at micro.1
   if nat_le coder.0 2 then Ok coder else Err faults.Coder
 
--- ---- state_transition_delta: each entry is the usual one and a delta
+-- ---- state_transition_delta: each entry is the default one and a delta
 unfoldable pub entry_at : ℕ → Source → Result (ℕ × Source) RecordFault
-entry_at usual s = do
+entry_at default s = do
   delta ← signed_at s
-  let entry = pos usual +ℤ delta.0 in if int_le (pos 1) entry && int_le entry (pos 255) then Ok (nat_abs entry, delta.1) else Err faults.Transition
+  let entry = pos default +ℤ delta.0 in if int_le (pos 1) entry && int_le entry (pos 255) then Ok (nat_abs entry, delta.1) else Err faults.Transition
 
 unfoldable pub entries_at : List ℕ → Source → Result (List ℕ × Source) RecordFault
 entries_at [] s = Ok ([], s)
-entries_at (usual ∷ more) s = do
-  entry ← entry_at usual s
+entries_at (default ∷ more) s = do
+  entry ← entry_at default s
   others ← entries_at more entry.1
   Ok (entry.0 ∷ others.0, others.1)
 
 unfoldable pub transition_at : ℕ → Source → Result (List ℕ × Source) RecordFault
 transition_at coder_type s =
     if coder_type == 2
-    then (entries_at (drop 1 USUAL) s >>= λ entries. Ok (0 ∷ entries.0, entries.1))
-    else Ok (USUAL, s)
+    then (entries_at (drop 1 DEFAULT_TRANSITION) s >>= λ entries. Ok (0 ∷ entries.0, entries.1))
+    else Ok (DEFAULT_TRANSITION, s)
 
 -- ---- colorspace_type, bits_per_raw_sample
 unfoldable pub bits_at : Source → Result (ℕ × Source) RecordFault
@@ -181,5 +181,5 @@ parameters bytes =
     if nat_lt (length bytes) 6
     then Err faults.Short
     else if has_parity bytes
-    then fields_at (source (opened USUAL (content bytes)) fresh)
+    then fields_at (source (opened DEFAULT_TRANSITION (content bytes)) fresh)
     else Err faults.Parity

@@ -1,10 +1,10 @@
--- How a configuration record is written: its fields as places and bits, coded by the usual table. RFC 9043 sections 3.8 and 4.2.
+-- How a configuration record is written: its fields as places and bits, coded by the default table. RFC 9043 sections 3.8 and 4.2.
 use Rattle.std.specs.Prelude.{ℕ, zero, suc, ◌-◌, Bool, true, false, if◌then◌else◌, ◌==◌, pos, ◌+ℤ◌, neg_ℤ, List, [], ◌∷◌, ◌++◌, length, drop}
 use Rattle.byteorder.specs.Endian.{big_bytes}
 use Rattle.tl_base.specs.Parity.{parity}
 use Rattle.pic_planes.specs.declared.shape.Chroma.{Chroma}
 use Rattle.pic_planes.specs.declared.shape.Chroma.TheVariants.{Grey, Shifts}
-use Rattle.ffv1_range.specs.declared.transition.TheConstants.{USUAL}
+use Rattle.ffv1_range.specs.declared.transition.TheConstants.{DEFAULT_TRANSITION}
 use Rattle.ffv1_range.specs.Writing.{part}
 use Rattle.ffv1_range.specs.Symbol.{spelling, with_states, set_after}
 use Rattle.ffv1_range.specs.Law.{written}
@@ -17,14 +17,14 @@ number n = spelling (pos n) false
 unfoldable pub flag : Bool → List (ℕ × Bool)
 flag bit = (0, bit) ∷ []
 
--- the differences of entries from the usual ones
+-- the differences of entries from the default ones
 unfoldable pub deltas : List ℕ → List ℕ → List (ℕ × Bool)
 deltas [] entries = []
-deltas (usual ∷ more) [] = []
-deltas (usual ∷ more) (entry ∷ entries) = spelling (pos entry +ℤ neg_ℤ (pos usual)) true ++ deltas more entries
+deltas (default ∷ more) [] = []
+deltas (default ∷ more) (entry ∷ entries) = spelling (pos entry +ℤ neg_ℤ (pos default)) true ++ deltas more entries
 
 unfoldable pub transition : ℕ → List ℕ → List (ℕ × Bool)
-transition coder_type table = if coder_type == 2 then deltas (drop 1 USUAL) (drop 1 table) else []
+transition coder_type table = if coder_type == 2 then deltas (drop 1 DEFAULT_TRANSITION) (drop 1 table) else []
 
 unfoldable pub chroma : Chroma → List (ℕ × Bool)
 chroma Grey = flag false ++ number 0 ++ number 0
@@ -65,7 +65,7 @@ after_tables p = ending (length p.sets) p.ec p.intra
 -- tables as bits with their states: each has a fresh set of its own
 unfoldable pub coded_tables : List (List ℕ) → List (ℕ × Bool)
 coded_tables [] = []
-coded_tables (table ∷ more) = with_states USUAL fresh (runs table) ++ coded_tables more
+coded_tables (table ∷ more) = with_states DEFAULT_TRANSITION fresh (runs table) ++ coded_tables more
 
 unfoldable pub coded_sets : List (List (List ℕ)) → List (ℕ × Bool)
 coded_sets [] = []
@@ -74,12 +74,12 @@ coded_sets (set ∷ more) = coded_tables set ++ coded_sets more
 -- a record as bits with their states: one set serves all fields but the tables
 unfoldable pub coded : Parameters → List (ℕ × Bool)
 coded p =
-    with_states USUAL fresh (before_tables p) ++ (coded_sets (runs_of p)
-    ++ with_states USUAL (set_after USUAL fresh (before_tables p)) (after_tables p))
+    with_states DEFAULT_TRANSITION fresh (before_tables p) ++ (coded_sets (runs_of p)
+    ++ with_states DEFAULT_TRANSITION (set_after DEFAULT_TRANSITION fresh (before_tables p)) (after_tables p))
 
 -- the bytes of a record: its range-coded part, which has no closing bit, and the parity of that
 unfoldable pub with_parity : List ℕ → List ℕ
 with_parity bytes = bytes ++ big_bytes 4 (parity bytes)
 
 unfoldable pub record_bytes : Parameters → List ℕ
-record_bytes p = with_parity (part (written USUAL (coded p)))
+record_bytes p = with_parity (part (written DEFAULT_TRANSITION (coded p)))

@@ -2,12 +2,8 @@
 use Rattle.std.specs.Prelude.{◌≡◌, ℕ, ◌+◌, ◌-◌, ◌*◌, ◌/◌, ◌^◌, ◌≤◌}
 use Rattle.pic_planes.specs.declared.shape.Chroma.{Chroma}
 use Rattle.pic_planes.specs.declared.shape.Chroma.TheVariants.{Grey, Shifts}
-use Rattle.pic_planes.specs.Shape.{Layout}
+use Rattle.pic_planes.specs.Shape.{Layout, shifted_down, shifted_up}
 use Rattle.ffv1_record.specs.Parameters.{Parameters}
-
--- a chroma shift's part of a size, rounded up
-abbrev pub shifted_up : ℕ → ℕ → ℕ
-shifted_up size shift = (size + (2 ^ shift - 1)) / 2 ^ shift
 
 -- where the last of so many columns or rows of slices starts, in luma samples
 abbrev pub last_start : ℕ → ℕ → ℕ
@@ -15,7 +11,7 @@ last_start cells size = (cells - 1) * size / cells
 
 -- The last column or row of slices reaches the end of a chroma plane.
 abbrev pub ReachesEnd : ℕ → ℕ → ℕ → Type 0
-ReachesEnd cells size shift = last_start cells size / 2 ^ shift + shifted_up (size - last_start cells size) shift ≡ shifted_up size shift
+ReachesEnd cells size shift = shifted_down (last_start cells size) shift + shifted_up (size - last_start cells size) shift ≡ shifted_up size shift
 
 -- The last column and row of slices reach the ends of the chroma planes.
 abbrev pub ReachesEnds : ℕ → ℕ → ℕ → ℕ → Chroma → Type 0

@@ -1,5 +1,5 @@
 -- Quantization tables, from the lengths of their runs. RFC 9043 sections 3.4 and 4.1.
-use Rattle.std.specs.Prelude.{◌≡◌, ℕ, ◌+◌, ◌-◌, ◌*◌, ◌/◌, ◌<◌, ◌≤◌, List, [], ◌∷◌, ◌++◌, length, map, reverse, drop, replicate, slice_index, sum, All, ℤ, pos, neg_ℤ}
+use Rattle.std.specs.Prelude.{◌≡◌, ℕ, ◌+◌, ◌-◌, ◌*◌, ◌/◌, ◌<◌, ◌≤◌, List, [], ◌∷◌, ◌++◌, length, map, reverse, drop, replicate, slice_index, slice_index_or, sum, All, ℤ, pos, neg_ℤ, ◌+ℤ◌, nat_abs}
 
 -- The first 128 entries of a table. Run v, from 0, gives the scale times v to as many entries as its length.
 abbrev pub first_half : ℕ → ℕ → List ℕ → List ℕ
@@ -35,15 +35,27 @@ pub record TableSet : Type 0 where
 abbrev pub set_of : List (List ℕ) → TableSet
 set_of runs = record { runs = runs; tables = tables_from 1 runs; context_count = (scale_after 1 runs + 1) / 2 }
 
+-- an entry of one of the five tables, by its place
+abbrev pub entry : List (List ℤ) → ℕ → ℕ → ℤ
+entry tables table place = slice_index_or (slice_index_or tables table []) place (pos 0)
+
+-- Any sum of one entry of each table has a magnitude below the number of contexts. RFC 9043 section 3.5.
+abbrev pub AreContexts : List (List ℤ) → ℕ → Type 0
+AreContexts tables count =
+    (a b c d e : ℕ) → nat_abs (entry tables 0 a +ℤ entry tables 1 b +ℤ entry tables 2 c +ℤ entry tables 3 d +ℤ entry tables 4 e) < count
+
 -- the lengths of a table's runs: none is 0, and together they are 128
 pub record AreRuns (runs : List ℕ) : Type 0 where
   pub some : All (λ run. 0 < run) runs
   pub whole : sum runs ≡ 128
 
--- no scale is over 32,768
+-- the largest scale
+abbrev pub max_scale : ℕ
+max_scale = 32768
+
 abbrev pub ScalesFit : ℕ → List (List ℕ) → Type 0
 ScalesFit scale [] = Unit {0}
-ScalesFit scale (runs ∷ more) = (next_scale scale runs ≤ 32768) × ScalesFit (next_scale scale runs) more
+ScalesFit scale (runs ∷ more) = (next_scale scale runs ≤ max_scale) × ScalesFit (next_scale scale runs) more
 
 -- the runs of a set's five tables
 pub record AreSetRuns (runs : List (List ℕ)) : Type 0 where

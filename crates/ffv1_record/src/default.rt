@@ -10,7 +10,7 @@ use crate::tables::{Runs, TableSet};
 use pic_planes::Shape;
 use std::alloc::{AllocError, Global};
 
-/// The record of an encoder: range or Golomb-Rice coded by the usual state transition table, with one set of tables of 365
+/// The record of an encoder: range or Golomb-Rice coded by the default state transition table, with one set of tables of 365
 /// contexts, error correction, and key frames only. `h` and `v` are the columns and rows of slices; the grid isn't larger than the
 /// shape, and its slices reach the ends of the planes.
 #[tactic(auto, using(crate::proofs::Defaults::default_sound))]

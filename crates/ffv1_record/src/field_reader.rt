@@ -8,7 +8,7 @@ ghost use Rattle.ffv1_record.specs.Parameters.{IsGrid};
 ghost use Rattle.pic_planes.specs.Shape.{AreShifts};
 
 use crate::fault::RecordFault;
-use ffv1_range::{RangeReader, States, Transition, USUAL};
+use ffv1_range::{DEFAULT_TRANSITION, RangeReader, States, Transition};
 use pic_planes::Chroma;
 use std::alloc::Global;
 use std::marker::Model;
@@ -22,7 +22,7 @@ pub(crate) struct FieldReader<'a> {
 
 impl<'a> Model for FieldReader<'a> {
     ghost use Rattle.std.specs.Prelude.{◌≡◌};
-    ghost use Rattle.ffv1_range.specs.declared.transition.TheConstants.{USUAL};
+    ghost use Rattle.ffv1_range.specs.declared.transition.TheConstants.{DEFAULT_TRANSITION};
     ghost use Rattle.ffv1_range.specs.Symbol.{Source, source};
     ghost use Rattle.ffv1_range.specs.Transition.{AllKept};
     ghost use Rattle.ffv1_record.specs.Reading.{fresh};
@@ -31,13 +31,13 @@ impl<'a> Model for FieldReader<'a> {
 
     ghost view = { λ a. source a.reader a.set };
 
-    ghost invariant = { λ a. AllKept a.reader.table a.set × AllKept a.reader.table fresh × (a.reader.table ≡ USUAL) };
+    ghost invariant = { λ a. AllKept a.reader.table a.set × AllKept a.reader.table fresh × (a.reader.table ≡ DEFAULT_TRANSITION) };
 }
 
 impl<'a> FieldReader<'a> {
-    /// A reader at the first field, by the usual table.
+    /// A reader at the first field, by the default table.
     pub(crate) fn over(bytes: &'a [u8], table: &'a Transition) -> FieldReader<'a>
-        requires { table.now ≡ USUAL }
+        requires { table.now ≡ DEFAULT_TRANSITION }
         ensures { result ≡ source (opened table.now bytes.now) fresh }
     {
         FieldReader {
@@ -172,14 +172,14 @@ impl<'a> FieldReader<'a> {
         self.number()
     }
 
-    /// An entry of the state transition table: the usual one and a delta.
+    /// An entry of the state transition table: the default one and a delta.
     #[tactic(auto, unfolding(crate::specs::Reading::entry_at))]
-    pub(crate) fn entry(&mut self, usual: u8) -> Result<u8, RecordFault>
-        ensures gives { Leaves (λ entry. entry) result self.new (entry_at usual self.old) }
+    pub(crate) fn entry(&mut self, default: u8) -> Result<u8, RecordFault>
+        ensures gives { Leaves (λ entry. entry) result self.new (entry_at default self.old) }
         ensures sound { IfOk result (λ entry. 0 < entry) }
     {
         let delta = self.signed()?;
-        let entry = entry_of(usual, delta);
+        let entry = entry_of(default, delta);
         if 1 <= entry && entry <= 255 {
             Ok(entry.unsigned_abs() as u8)
         } else {
@@ -217,9 +217,9 @@ fn are_few(columns: u64, rows: u64) -> bool
     columns <= 1024 && rows <= 1024 && columns * rows <= 1024
 }
 
-fn entry_of(usual: u8, delta: i64) -> i64
+fn entry_of(default: u8, delta: i64) -> i64
     requires { nat_abs delta < 2 ^ 32 }
-    ensures { result ≡ pos usual +ℤ delta }
+    ensures { result ≡ pos default +ℤ delta }
 {
-    i64::from(usual) + delta
+    i64::from(default) + delta
 }

@@ -8,7 +8,7 @@ ghost use Rattle.ffv1_record.specs.Spelling.{number, flag, deltas, transition, c
 ghost use Rattle.ffv1_record.specs.Sink.{sink, wrote, wrote_table, wrote_tables, wrote_sets};
 
 use crate::tables::{Runs, TableSet};
-use ffv1_range::{RangeWriter, States, Transition, USUAL};
+use ffv1_range::{DEFAULT_TRANSITION, RangeWriter, States, Transition};
 use pic_planes::Chroma;
 use std::alloc::{AllocError, Global};
 use std::marker::Model;
@@ -22,7 +22,7 @@ pub(crate) struct FieldWriter<'a> {
 
 impl<'a> Model for FieldWriter<'a> {
     ghost use Rattle.std.specs.Prelude.{◌≡◌};
-    ghost use Rattle.ffv1_range.specs.declared.transition.TheConstants.{USUAL};
+    ghost use Rattle.ffv1_range.specs.declared.transition.TheConstants.{DEFAULT_TRANSITION};
     ghost use Rattle.ffv1_range.specs.Transition.{AllKept};
     ghost use Rattle.ffv1_record.specs.Reading.{fresh};
     ghost use Rattle.ffv1_record.specs.Sink.{Sink, sink};
@@ -31,13 +31,13 @@ impl<'a> Model for FieldWriter<'a> {
 
     ghost view = { λ a. sink a.writer a.set };
 
-    ghost invariant = { λ a. AllKept a.writer.table a.set × AllKept a.writer.table fresh × (a.writer.table ≡ USUAL) };
+    ghost invariant = { λ a. AllKept a.writer.table a.set × AllKept a.writer.table fresh × (a.writer.table ≡ DEFAULT_TRANSITION) };
 }
 
 impl<'a> FieldWriter<'a> {
-    /// A writer before the first field, by the usual table.
+    /// A writer before the first field, by the default table.
     pub(crate) fn start(alloc: Global, table: &'a Transition) -> FieldWriter<'a>
-        requires { table.now ≡ USUAL }
+        requires { table.now ≡ DEFAULT_TRANSITION }
         ensures { result ≡ sink (started table.now) fresh }
     {
         FieldWriter {
@@ -64,13 +64,13 @@ impl<'a> FieldWriter<'a> {
         Ok(())
     }
 
-    /// The difference of an entry of the state transition table from the usual one.
+    /// The difference of an entry of the state transition table from the default one.
     #[tactic(auto, unfolding(crate::specs::Sink::wrote))]
-    pub(crate) fn delta(&mut self, usual: u8, entry: u8) -> Result<(), AllocError>
-        ensures { OnOk result (self.new ≡ wrote self.old (spelling (pos entry +ℤ neg_ℤ (pos usual)) true)) }
+    pub(crate) fn delta(&mut self, default: u8, entry: u8) -> Result<(), AllocError>
+        ensures { OnOk result (self.new ≡ wrote self.old (spelling (pos entry +ℤ neg_ℤ (pos default)) true)) }
     {
         self.writer
-            .symbol(&mut self.set, i64::from(entry) - i64::from(usual), true)?;
+            .symbol(&mut self.set, i64::from(entry) - i64::from(default), true)?;
         Ok(())
     }
 
@@ -154,21 +154,21 @@ impl<'a> FieldWriter<'a> {
         ensures { OnOk result (self.new ≡ wrote self.old (transition coder_type table.now)) }
     {
         if coder_type == 2 {
-            let usual = Transition::usual();
-            let (_, usual) = usual.one_states().split_at(1);
+            let default = Transition::default_table();
+            let (_, default) = default.one_states().split_at(1);
             let (_, entries) = table.one_states().split_at(1);
-            self.deltas(usual, entries)?;
+            self.deltas(default, entries)?;
         }
         Ok(())
     }
 
-    // The differences of entries from the usual ones.
-    fn deltas(&mut self, usual: &[u8], entries: &[u8]) -> Result<(), AllocError>
-        requires { length usual.now ≡ length entries.now }
-        ensures { OnOk result (self.new ≡ wrote self.old (deltas usual.now entries.now)) }
+    // The differences of entries from the default ones.
+    fn deltas(&mut self, default: &[u8], entries: &[u8]) -> Result<(), AllocError>
+        requires { length default.now ≡ length entries.now }
+        ensures { OnOk result (self.new ≡ wrote self.old (deltas default.now entries.now)) }
     {
-        for i in 0..usual.len() {
-            self.delta(usual[i], entries[i])?;
+        for i in 0..default.len() {
+            self.delta(default[i], entries[i])?;
         }
         Ok(())
     }

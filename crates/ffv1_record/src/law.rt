@@ -8,7 +8,7 @@ ghost use Rattle.ffv1_record.specs.Spelling.{record_bytes};
 
 use crate::fault::RecordFault;
 use crate::record::Coder;
-use ffv1_range::{Transition, codes_in_turn, reads_open_part, reads_symbols};
+use ffv1_range::{Transition, codes_in_turn, reads_closed_mode, reads_symbols};
 use tl_base::{numbers_read_back, parity_is_remainder};
 
 /// What is written of a record is read again as the record.
@@ -17,10 +17,10 @@ pub fn record_reads_back()
 {
     codes_in_turn();
     reads_symbols();
-    reads_open_part();
+    reads_closed_mode();
     numbers_read_back();
     parity_is_remainder();
-    let _usual = Transition::usual();
+    let _default = Transition::default_table();
 }
 
 /// The clone of a coder or a fault is the same, and making it never fails. Two of them are equal exactly where they are the same.

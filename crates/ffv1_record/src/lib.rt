@@ -5,6 +5,7 @@
 #![tactic(auto)]
 
 mod default;
+mod entries;
 mod fault;
 mod field_reader;
 mod field_writer;
@@ -14,6 +15,7 @@ mod table_reader;
 mod tables;
 
 pub use default::default_record;
+pub use entries::Tables;
 pub use fault::RecordFault;
 pub use law::{clone_and_eq_are_exact, record_reads_back};
 pub use record::{Coder, Record};

@@ -1,20 +1,22 @@
 //! The configuration record.
-ghost use Rattle.std.specs.Prelude.{◌≡◌, ◌≤◌, ◌<◌, ◌+◌, ◌-◌, ◌/◌, ◌^◌, ◌↔◌, IsSome, IfSome, IfOk, IsTrue, OnOk, Ok, true, length, map};
+ghost use Rattle.std.specs.Prelude.{◌≡◌, ℕ, ◌≤◌, ◌<◌, ◌+◌, ◌-◌, ◌/◌, ◌^◌, ◌↔◌, IsSome, IfSome, IfOk, IsTrue, OnOk, Ok, true, length, map, slice_index_or, []};
 ghost use Rattle.ffv1_record.specs.Reading.{Gives, fields_at, parameters};
-ghost use Rattle.pic_planes.specs.Shape.{AreShifts, IsShape, IsSize, layout};
-ghost use Rattle.ffv1_record.specs.Parameters.{IsGrid, parameters_of};
-ghost use Rattle.ffv1_record.specs.Tables.{AreSets, set_of};
+ghost use Rattle.tl_limits.specs.Limits.{IsSide, max_side, max_slices};
+ghost use Rattle.pic_planes.specs.Shape.{AreShifts, IsShape, layout};
+ghost use Rattle.ffv1_record.specs.Parameters.{IsGrid, IsRecord, parameters_of, tables_of, context_count_of};
+ghost use Rattle.ffv1_record.specs.Tables.{AreSets, AreContexts, set_of};
 ghost use Rattle.ffv1_record.specs.Default.{coder_type_of};
 ghost use Rattle.ffv1_record.specs.Suits.{Suits, ReachesEnd, ReachesEnds};
 ghost use Rattle.ffv1_record.specs.Spelling.{record_bytes, with_parity};
 
+use crate::entries::Tables;
 use crate::fault::RecordFault;
 use crate::field_reader::FieldReader;
 use crate::field_writer::FieldWriter;
 use crate::law::record_reads_back;
 use crate::tables::TableSet;
-use ffv1_range::{Transition, USUAL};
-use pic_planes::{Chroma, Shape};
+use ffv1_range::{DEFAULT_TRANSITION, Transition};
+use pic_planes::{Chroma, Shape, shifted_down, shifted_up};
 use std::alloc::{AllocError, Global};
 use std::marker::Model;
 use tl_base::{big_u32, parity, put_big_u32};
@@ -69,8 +71,8 @@ impl Record {
         if big_u32(last) != parity(content) {
             return Err(RecordFault::Parity);
         }
-        let usual = Transition::usual();
-        let mut fields = FieldReader::over(content, &usual);
+        let default = Transition::default_table();
+        let mut fields = FieldReader::over(content, &default);
         Record::from_fields(alloc, &mut fields)
     }
 
@@ -81,8 +83,8 @@ impl Record {
         ensures read_back { IfOk result (λ bytes. parameters bytes.items ≡ Ok self.now) }
     {
         record_reads_back();
-        let usual = Transition::usual();
-        let mut fields = FieldWriter::start(alloc, &usual);
+        let default = Transition::default_table();
+        let mut fields = FieldWriter::start(alloc, &default);
         let sets = self.sets.len() as u32;
         fields.coding(self.coder_type, &self.table)?;
         fields.planes(self.chroma)?;
@@ -120,7 +122,7 @@ impl Record {
 }
 
 impl Record {
-    /// A record of the usual state transition table, with error correction and key frames only.
+    /// A record of the default state transition table, with error correction and key frames only.
     pub(crate) fn of_fields(
         coder: Coder,
         chroma: Chroma,
@@ -131,11 +133,11 @@ impl Record {
         requires chroma { AreShifts chroma }
         requires grid { IsGrid columns rows }
         requires sets { AreSets sets.items }
-        ensures { result ≡ parameters_of (coder_type_of coder) USUAL chroma columns rows sets.items true 1 }
+        ensures { result ≡ parameters_of (coder_type_of coder) DEFAULT_TRANSITION chroma columns rows sets.items true 1 }
     {
         Record {
             coder_type: coder_type_of(coder),
-            table: Transition::usual(),
+            table: Transition::default_table(),
             chroma,
             columns,
             rows,
@@ -195,6 +197,24 @@ impl Record {
         self.sets.as_slice()
     }
 
+    /// Gives the entries of the tables of a set.
+    pub fn fill(&self, set: usize, tables: &mut Tables)
+        requires { set < length self.now.sets }
+        ensures { tables.new ≡ tables_of self.now set }
+    {
+        self.sets.as_slice()[set].fill(tables);
+    }
+
+    /// Tells, in a proof, what is true of every record: its fields are those that a record can have, and the sum of one entry of
+    /// each table of a set is one of the set's contexts. It does nothing.
+    pub fn lawful(&self)
+        ensures fields { IsRecord self.now }
+        ensures contexts { (set : ℕ) → set < length self.now.sets → AreContexts (tables_of self.now set) (context_count_of self.now set) }
+    {
+        are_lawful(self.sets.as_slice());
+        let _intra = self.intra;
+    }
+
     /// Whether each slice ends with an error status and its parity.
     pub fn ec(&self) -> bool
         ensures { result ≡ self.now.ec }
@@ -249,6 +269,12 @@ impl Record {
     }
 }
 
+// The sum of one entry of each table of a set is one of the set's contexts.
+fn are_lawful(sets: &[TableSet])
+    requires { AreSets sets.now }
+    ensures { (set : ℕ) → set < length sets.now → AreContexts (set_of (slice_index_or sets.now set [])).tables (set_of (slice_index_or sets.now set [])).context_count }
+{}
+
 /// Puts the parity of bytes behind them.
 #[tactic(auto, unfolding(crate::specs::Spelling::with_parity))]
 pub(crate) fn put_parity(bytes: &mut Vec<u8>) -> Result<(), AllocError>
@@ -264,8 +290,8 @@ pub(crate) fn put_parity(bytes: &mut Vec<u8>) -> Result<(), AllocError>
 fn reaches_ends(chroma: Chroma, columns: u32, rows: u32, width: u32, height: u32) -> bool
     requires chroma { AreShifts chroma }
     requires grid { IsGrid columns rows }
-    requires width { IsSize width }
-    requires height { IsSize height }
+    requires width { IsSide width }
+    requires height { IsSide height }
     ensures { IsTrue result ↔ ReachesEnds columns rows width height chroma }
 {
     match chroma {
@@ -276,38 +302,13 @@ fn reaches_ends(chroma: Chroma, columns: u32, rows: u32, width: u32, height: u32
 
 fn reaches_end(cells: u32, size: u32, shift: u8) -> bool
     requires cells { 1 ≤ cells }
-    requires few { cells ≤ 1024 }
-    requires size { size ≤ 8192 }
+    requires few { cells ≤ max_slices }
+    requires size { size ≤ max_side }
     requires shift { shift ≤ 2 }
     ensures { IsTrue result ↔ ReachesEnd cells size shift }
 {
     let start = (cells - 1) * size / cells;
-    let step = step_of(shift);
-    start / step + shifted_up(size - start, step) == shifted_up(size, step)
-}
-
-// The luma samples of a chroma sample in one direction.
-fn step_of(shift: u8) -> u32
-    requires { shift ≤ 2 }
-    ensures step { result ≡ 2 ^ shift }
-    ensures some { 1 ≤ result }
-    ensures small { result ≤ 4 }
-{
-    match shift {
-        0 => 1,
-        1 => 2,
-        _ => 4,
-    }
-}
-
-// A part of a size, rounded up.
-fn shifted_up(size: u32, step: u32) -> u32
-    requires step { 1 ≤ step }
-    requires small { step ≤ 4 }
-    requires size { size ≤ 8192 }
-    ensures { result ≡ (size + (step - 1)) / step }
-{
-    (size + (step - 1)) / step
+    shifted_down(start, shift) + shifted_up(size - start, shift) == shifted_up(size, shift)
 }
 
 fn coder_type_of(coder: Coder) -> u8

@@ -25,23 +25,23 @@ impl<'a> FieldReader<'a> {
         ensures gives { Leaves (λ table. table) result self.new (transition_at coder_type self.old) }
         ensures sound { IfOk result (IsTableFor coder_type) }
     {
-        let usual = Transition::usual();
+        let default = Transition::default_table();
         if coder_type != 2 {
-            return Ok(usual);
+            return Ok(default);
         }
-        let (_, usual) = usual.one_states().split_at(1);
-        let entries = self.entries(alloc, usual)?;
+        let (_, default) = default.one_states().split_at(1);
+        let entries = self.entries(alloc, default)?;
         Ok(Transition::of(entries.as_slice()).unwrap())
     }
 
-    // The entries that deltas give to usual ones.
-    fn entries(&mut self, alloc: Global, usual: &[u8]) -> Result<Vec<u8>, RecordFault>
-        ensures gives { Leaves (λ entries. entries.items) result self.new (entries_at usual.now self.old) }
-        ensures len { IfOk result (λ entries. vec_len entries ≡ length usual.now) }
+    // The entries that deltas give to default ones.
+    fn entries(&mut self, alloc: Global, default: &[u8]) -> Result<Vec<u8>, RecordFault>
+        ensures gives { Leaves (λ entries. entries.items) result self.new (entries_at default.now self.old) }
+        ensures len { IfOk result (λ entries. vec_len entries ≡ length default.now) }
         ensures sound { IfOk result (λ entries. All (λ state. 0 < state) entries.items) }
     {
         let mut entries = Vec::new(alloc);
-        for state in usual {
+        for state in default {
             let entry = self.entry(*state)?;
             entries.push(entry)?;
         }

@@ -1,7 +1,8 @@
 //! Quantization tables, as the lengths of their runs. RFC 9043 sections 3.4 and 4.1.
 ghost use Rattle.std.specs.Prelude.{◌≡◌, map};
-ghost use Rattle.ffv1_record.specs.Tables.{set_of};
+ghost use Rattle.ffv1_record.specs.Tables.{AreSetRuns, set_of};
 
+use crate::entries::Tables;
 use std::marker::Model;
 
 /// The lengths of the runs of one table, together 128.
@@ -36,5 +37,15 @@ impl TableSet {
         ensures { result ≡ (set_of self.now).context_count }
     {
         self.context_count
+    }
+}
+
+impl TableSet {
+    // Gives the entries of the tables.
+    pub(crate) fn fill(&self, tables: &mut Tables)
+        requires { AreSetRuns self.now }
+        ensures { tables.new ≡ (set_of self.now).tables }
+    {
+        tables.fill(self.tables.as_slice());
     }
 }

@@ -9,7 +9,7 @@ use std::alloc::{AllocError, Global};
 use std::process::Abort;
 use std::test::Fail;
 
-// Two table sets, 4:2:0, a grid of 2 x 2, range coded by the usual table.
+// Two table sets, 4:2:0, a grid of 2 x 2, range coded by the default table.
 #[rattlefmt::skip]
 const RANGE: [u8; 42] = [
     0x56, 0x00, 0x30, 0x9C, 0x75, 0xDF, 0xF4, 0x60, 0xB4, 0x3A, 0x42, 0xD7, 0xD4, 0xD6, 0x86, 0x2F,
@@ -93,10 +93,10 @@ fn faults(rt: HostRuntime) -> Result<(), Fail> {
 
 // A default record whose set has initial states of its own, or the start of one with the coder type 2 whose first delta gives 0.
 fn record_of_fields(alloc: Global, has_states: bool) -> Result<Vec<u8>, AllocError> {
-    let usual = Transition::usual();
-    let mut fields = FieldWriter::start(alloc, &usual);
+    let default = Transition::default_table();
+    let mut fields = FieldWriter::start(alloc, &default);
     if has_states {
-        fields.coding(1, &usual)?;
+        fields.coding(1, &default)?;
         fields.planes(Chroma::Grey)?;
         fields.grid(1, 1, 1)?;
         fields.sets(&[crate::default::default_set(alloc)?])?;
@@ -149,9 +149,9 @@ fn grids_that_suit(rt: HostRuntime) -> Result<(), Fail> {
 
 // A record of 4:2:0 with a row of slices.
 fn bytes_of_grid(alloc: Global, columns: u32) -> Result<Vec<u8>, AllocError> {
-    let usual = Transition::usual();
-    let mut fields = FieldWriter::start(alloc, &usual);
-    fields.coding(1, &usual)?;
+    let default = Transition::default_table();
+    let mut fields = FieldWriter::start(alloc, &default);
+    fields.coding(1, &default)?;
     fields.planes(Chroma::Shifts { h: 1, v: 1 })?;
     fields.grid(columns.max(1), 1, 1)?;
     fields.sets(&[crate::default::default_set(alloc)?])?;

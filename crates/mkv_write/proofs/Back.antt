@@ -207,12 +207,12 @@ read_back : (bytes : List ℕ) (w : writing.Writing) (lead_length count : ℕ) �
 read_back bytes w lead_length count limits counts all f =
     let pieces = segment_pieces w.private w.width w.height lead_length w.rate w.packets count in
     let start = segment_start + 12 in
-    let each = ArePieces-segment w.private w.width w.height lead_length w.rate w.packets count limits.most_private (omega (arith, counts, limits.most_packets)) limits.short_packets in
+    let each = ArePieces-segment w.private w.width w.height lead_length w.rate w.packets count limits.private.1 (omega (arith, counts, limits.frames.1)) limits.packets in
     let there = stands-body bytes (body_of pieces) f in
-    let segment = reads_segment bytes start w.private w.width w.height lead_length w.rate w.packets count limits.most_private limits.some_rate limits.most_rate limits.most_packets counts all limits.short_packets there in
+    let segment = reads_segment bytes start w.private w.width w.height lead_length w.rate w.packets count limits.private.1 limits.rate.0 limits.rate.1 limits.frames.1 counts all limits.packets there in
     let reads = reads_file bytes pieces segment.found each f segment.reads in
     let tracks = finds bytes start pieces TRACKS (tracks_piece w.private w.width w.height) there refl in
-    let t = track_read bytes tracks.place w.private w.width w.height limits.some_width limits.most_width limits.some_height limits.most_height limits.some_private limits.most_private tracks.stands in
+    let t = track_read bytes tracks.place w.private w.width w.height limits.width.0 limits.width.1 limits.height.0 limits.height.1 limits.private.0 limits.private.1 tracks.stands in
     let private_at = place_at t.place (length w.private) in
     let track_is : track_of bytes (segment_of bytes) ≡ Ok (record { number = 1; width = w.width; height = w.height; private = private_at }) =
     ap (track_of bytes) (segment_of-file bytes (body_of pieces) f)
@@ -220,7 +220,7 @@ read_back bytes w lead_length count limits counts all f =
     ∙ ap (λ (walk : Listing). track_in bytes (first TRACKS walk)) (inside-segment bytes pieces each f)
     ∙ ap (track_in bytes) tracks.found
     ∙ t.is in
-    let made = clip_with-frames (record { number = 1; width = w.width; height = w.height; private = private_at }) bytes w.rate w.packets segment.found limits.some_rate limits.some_packets limits.most_packets segment.are in
+    let made = clip_with-frames (record { number = 1; width = w.width; height = w.height; private = private_at }) bytes w.rate w.packets segment.found limits.rate.0 limits.frames.0 limits.frames.1 segment.are in
     let places = map (λ block. block.packet) segment.found in
     record {
       clip = clip_of_parts w.width w.height private_at places;

@@ -1,7 +1,7 @@
 -- What was put against the whole file.
 use Rattle.std.proofs.Common.{◌≡◌, ℕ, ◌/◌, ◌≤◌, List, [], ◌∷◌, ◌++◌, length, refl, sym, subst, arith, length-append}
 use Rattle.std.proofs.lemmas.Bool.{false≢true}
-use Rattle.std.specs.Prelude.{Result, Ok, Err, IsErr}
+use Rattle.std.specs.Prelude.{Bool, IsTrue, Result, Ok, Err, IsErr}
 use Rattle.mkv_write.specs.declared.fault.WriteFault.{WriteFault}
 use Rattle.mkv_elements.specs.declared.TheConstants.{CUES}
 use Rattle.mkv_write.specs.File.{mkv, ebml_header, segment_head, element, head, lead, clusters, cluster_count, cue_points, cues}
@@ -36,7 +36,7 @@ put_of-prefix w more =
     prefix_trans (put_of w) (put_of then_all) (file_of then_all) (put_of-more w more) (some_clusters then_all (length then_all.packets / 25) (omega arith))
 
 -- after a fault
-pub puts_err : {T : Type 0} (tells : Type 0) (held whole : List ℕ) (result : Result T WriteFault) → IsErr result → (tells → IsPrefix held whole) → Puts tells held whole result
+pub puts_err : {T : Type 0} (tells : Bool) (held whole : List ℕ) (result : Result T WriteFault) → IsErr result → (IsTrue tells → IsPrefix held whole) → Puts tells held whole result
 puts_err tells held whole (Ok value) fails is = absurd (false≢true fails)
 puts_err tells held whole (Err fault) fails is = is
 

@@ -34,8 +34,7 @@ keeps_gathered w frames place bytes bytes' cues packet keeps room size early e =
     let frames_are : frames ≡ length w.packets = keeps.frames_are in
     let bytes_limit : place + length bytes ≤ 2 ^ 17 + frames * 2 ^ 41 = keeps.bytes_limit in
     record {
-      rate_above = keeps.rate_above;
-      rate_limit = keeps.rate_limit;
+      rate = keeps.rate;
       frames_are = omega arith;
       frames_limit = omega arith;
       open_are = e ∙ ap (λ (k : ℕ). bytes ++ next_block w.rate k packet) frames_are ∙ ap (λ (x : List ℕ). x ++ next_block w.rate (length w.packets) packet) (keeps.open_are ∙ open_blocks-is w) ∙ sym (open_at-next w.rate w.packets packet) ∙ ap (open_at w.rate all) same ∙ sym (open_blocks-is (with_packet w packet));
@@ -86,8 +85,7 @@ keeps_ended w frames place place' bytes cues cues' packet keeps room size last p
     let content_length : length (bytes ++ next_block w.rate frames packet) ≡ length content = ap length content-is in
     let place_after : place' ≡ cluster_place lead w.rate all (suc n) = omega arith in
     record {
-      rate_above = keeps.rate_above;
-      rate_limit = keeps.rate_limit;
+      rate = keeps.rate;
       frames_are = omega arith;
       frames_limit = omega arith;
       open_are = sym (open_at-none w.rate all (length all / 25) (omega arith)) ∙ sym (open_blocks-is (with_packet w packet));
@@ -153,8 +151,7 @@ unfolding blocks clusters cluster_place cue_points
 keeps_nothing private width height rate place above limit size place-is =
     let bytes = length-lead private width height in
     record {
-      rate_above = above;
-      rate_limit = limit;
+      rate = (above, limit);
       frames_are = refl;
       frames_limit = omega arith;
       open_are = refl;

@@ -2,7 +2,8 @@
 use Rattle.std.specs.Prelude.{◌≡◌, ℕ, ◌+◌, ◌*◌, ◌/◌, ◌^◌, ◌≤◌, List, length, drop}
 use Rattle.std.specs.List.{flat_map}
 use Rattle.mkv_write.specs.declared.cue.Cue.{Cue}
-use Rattle.mkv_write.specs.File.{frame_time, lead, cluster_frames, blocks, cluster_place, cue_point, cue_points}
+use Rattle.tl_limits.specs.Limits.{IsRate, max_frames, cluster_frames}
+use Rattle.mkv_write.specs.File.{frame_time, lead, blocks, cluster_place, cue_point, cue_points}
 use Rattle.mkv_write.specs.Writing.{Writing}
 
 -- How many Clusters are full.
@@ -27,10 +28,9 @@ points_of cues = flat_map (λ cue. cue_point cue.time cue.place) cues
 
 -- The blocks of the open Cluster, a Cue for each full one, and the place after them.
 pub record Keeps (w : Writing) (frames place : ℕ) (open_bytes : List ℕ) (cues : List Cue) : Type 0 where
-  pub rate_above : 1 ≤ w.rate
-  pub rate_limit : w.rate ≤ 240
+  pub rate : IsRate w.rate
   pub frames_are : frames ≡ length w.packets
-  pub frames_limit : frames ≤ 1000000
+  pub frames_limit : frames ≤ max_frames
   pub open_are : open_bytes ≡ open_blocks w
   pub cues_are : points_of cues ≡ cue_points (lead_length w) w.rate w.packets (full_count w)
   pub place_is : place ≡ cluster_place (lead_length w) w.rate w.packets (full_count w)

@@ -1,26 +1,21 @@
 -- The law of writing and reading back: the clip of a written file is what was written.
-use Rattle.std.specs.Prelude.{◌≡◌, ℕ, ◌+◌, ◌^◌, ◌≤◌, List, length, map, Ok}
+use Rattle.std.specs.Prelude.{◌≡◌, ℕ, ◌+◌, ◌≤◌, List, length, map, Ok}
 use Rattle.std.specs.List.{AllByRecursion}
+use Rattle.tl_limits.specs.Limits.{IsSide, IsRecordLength, IsRate, IsFrameCount, max_packet_bytes}
 use Rattle.ebml_core.specs.Spelling.{between}
 use Rattle.mkv_read.specs.declared.clip.Place.{Place}
 use Rattle.mkv_read.specs.declared.clip.ClipIndex.{ClipIndex}
 use Rattle.mkv_read.specs.Clip.{clip_of}
 use Rattle.mkv_write.specs.Writing.{Writing}
 
--- What a writer asks for, and at least one packet: 1 to 8192 pixels a side, a configuration record of 1 to 65,536 bytes,
--- 1 to 240 frames a second, at most 1,000,000 packets, and at most 2 ^ 40 bytes in each.
+-- What a writer asks for, and at least one packet.
 pub record IsWritable (w : Writing) : Type 0 where
-  pub some_width : 1 ≤ w.width
-  pub most_width : w.width ≤ 8192
-  pub some_height : 1 ≤ w.height
-  pub most_height : w.height ≤ 8192
-  pub some_private : 1 ≤ length w.private
-  pub most_private : length w.private ≤ 65536
-  pub some_rate : 1 ≤ w.rate
-  pub most_rate : w.rate ≤ 240
-  pub some_packets : 1 ≤ length w.packets
-  pub most_packets : length w.packets ≤ 1000000
-  pub short_packets : AllByRecursion (λ packet. length packet ≤ 2 ^ 40) w.packets
+  pub width : IsSide w.width
+  pub height : IsSide w.height
+  pub private : IsRecordLength (length w.private)
+  pub rate : IsRate w.rate
+  pub frames : IsFrameCount (length w.packets)
+  pub packets : AllByRecursion (λ packet. length packet ≤ max_packet_bytes) w.packets
 
 -- the bytes at a place
 abbrev pub bytes_at : List ℕ → Place → List ℕ

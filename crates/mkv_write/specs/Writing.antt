@@ -1,9 +1,10 @@
 -- What a writer stands for, and what its calls do to the begun file.
-use Rattle.std.specs.Prelude.{◌≡◌, ℕ, ◌/◌, List, [], ◌∷◌, ◌++◌, length, Result, Ok, Err}
+use Rattle.std.specs.Prelude.{◌≡◌, ℕ, ◌/◌, Bool, IsTrue, List, [], ◌∷◌, ◌++◌, length, Result, Ok, Err}
 use Rattle.tl_ports.specs.Outside.{Rose}
 use Rattle.mkv_write.specs.declared.fault.WriteFault.{WriteFault}
 use Rattle.mkv_write.specs.declared.fault.WriteFault.TheVariants as writing
-use Rattle.mkv_write.specs.File.{head, cluster_frames, clusters, mkv}
+use Rattle.tl_limits.specs.Limits.{cluster_frames}
+use Rattle.mkv_write.specs.File.{head, clusters, mkv}
 
 -- A file that is being written, and the packets that were given so far.
 pub record Writing : Type 0 where
@@ -34,12 +35,12 @@ abbrev pub IsPrefix : List ℕ → List ℕ → Type 0
 IsPrefix prefix whole = (rest : List ℕ) × (whole ≡ prefix ++ rest)
 
 -- What the begun file holds after a call, where it is told: at `Ok` the whole of what was to be put, and after a fault a prefix of it.
-abbrev pub Puts : {T : Type 0} (tells : Type 0) (held whole : List ℕ) → Result T WriteFault → Type 0
-Puts tells held whole (Ok value) = tells → held ≡ whole
-Puts tells held whole (Err fault) = tells → IsPrefix held whole
+abbrev pub Puts : {T : Type 0} (tells : Bool) (held whole : List ℕ) → Result T WriteFault → Type 0
+Puts tells held whole (Ok value) = IsTrue tells → held ≡ whole
+Puts tells held whole (Err fault) = IsTrue tells → IsPrefix held whole
 
 -- The same of a piece that is added at the end.
-abbrev pub Appends : {T : Type 0} (tells : Type 0) (before after piece : List ℕ) → Result T WriteFault → Type 0
+abbrev pub Appends : {T : Type 0} (tells : Bool) (before after piece : List ℕ) → Result T WriteFault → Type 0
 Appends tells before after piece result = Puts tells after (before ++ piece) result
 
 -- `Sink` comes only where the vault's count rose in that call, and every other answer leaves the count as it was.

@@ -1,8 +1,9 @@
 //! Clusters, and the blocks in them.
 
 ghost use Rattle.std.specs.Prelude.{◌≡◌, ◌++◌, ◌+◌, ◌-◌, ◌*◌, ◌/◌, ◌<◌, ◌≤◌, ◌^◌, length, OnOk, OnErr, IfOk, IsSome};
+ghost use Rattle.tl_limits.specs.Limits.{max_packet_bytes, cluster_frames};
 ghost use Rattle.tl_ports.specs.Outside.{KeepsBegun};
-ghost use Rattle.mkv_write.specs.File.{frame_time, simple_block, cluster_frames, cluster_of};
+ghost use Rattle.mkv_write.specs.File.{frame_time, simple_block, cluster_of};
 ghost use Rattle.mkv_write.specs.History.{packet_of};
 ghost use Rattle.mkv_write.specs.Writing.{Appends, IsPrefix, WriteHasCause};
 
@@ -13,10 +14,8 @@ use crate::put::put_both;
 use mkv_elements::{CLUSTER, SIMPLE_BLOCK, TIMESTAMP};
 use std::alloc::{AllocError, Global};
 use std::snapshot::Snapshot;
+use tl_limits::CLUSTER_FRAMES;
 use tl_ports::Vault;
-
-/// How many frames a Cluster has; the last one has 1 to as many.
-pub const CLUSTER_FRAMES: u32 = 25;
 
 /// What stands before the packet in a block: its number of bytes.
 const BLOCK_HEAD: usize = 13;
@@ -55,7 +54,7 @@ pub(crate) fn block_time(rate: u32, frame: u32) -> u16
 /// Appends a SimpleBlock of track 1, a key frame: the time after its Cluster's, and the packet. After a refusal
 /// the buffer is as before.
 pub(crate) fn put_block(out: &mut Vec<u8>, time: u16, packet: &[u8]) -> Result<Given, AllocError>
-    requires { length packet.now ≤ 2 ^ 40 }
+    requires { length packet.now ≤ max_packet_bytes }
     ensures ok { OnOk result (out.new.items ≡ out.old.items ++ simple_block time packet.now) }
     ensures given { IfOk result (λ given. packet_of given ≡ packet.now) }
     ensures err { OnErr result (out.new.items ≡ out.old.items) }
@@ -74,7 +73,7 @@ pub(crate) fn put_block(out: &mut Vec<u8>, time: u16, packet: &[u8]) -> Result<G
 /// The parts of the block. After a refusal some of them may have been appended.
 #[tactic(auto, unfolding(crate::specs::File::simple_block, crate::specs::File::element))]
 fn put_parts(out: &mut Vec<u8>, time: u16, packet: &[u8]) -> Result<Given, AllocError>
-    requires { length packet.now ≤ 2 ^ 40 }
+    requires { length packet.now ≤ max_packet_bytes }
     ensures ok { OnOk result (out.new.items ≡ out.old.items ++ simple_block time packet.now) }
     ensures given { IfOk result (λ given. packet_of given ≡ packet.now) }
     ensures err { OnErr result (IsPrefix out.old.items out.new.items) }
@@ -109,11 +108,11 @@ pub(crate) fn put_cluster<V: Vault>(
     time: u64,
     blocks: &[u8],
 ) -> Result<(), WriteFault>
-    requires begun { IsSome (V.begun vault.old) }
+    requires begun { IsSome (V.seen vault.old).begun }
     requires fits { length blocks.now < 2 ^ 62 }
-    ensures put { Appends V.tells (V.held vault.old) (V.held vault.new) (cluster_of time blocks.now) result }
-    ensures kept { KeepsBegun V.tells V.begun V.file V.faults vault.old vault.new }
-    ensures cause { WriteHasCause (V.faults vault.old) (V.faults vault.new) result }
+    ensures put { Appends V.tells (V.seen vault.old).held (V.seen vault.new).held (cluster_of time blocks.now) result }
+    ensures kept { KeepsBegun V.tells (V.seen vault.old) (V.seen vault.new) }
+    ensures cause { WriteHasCause (V.seen vault.old).faults (V.seen vault.new).faults result }
 {
     let head = cluster_head(alloc, time, blocks)?;
     put_both(vault, &head, blocks)?;
@@ -129,16 +128,16 @@ pub(crate) fn put_full_cluster<V: Vault>(
     block_time: u16,
     packet: &[u8],
 ) -> Result<Given, WriteFault>
-    requires begun { IsSome (V.begun vault.old) }
+    requires begun { IsSome (V.seen vault.old).begun }
     requires fits { length blocks.old.items < 2 ^ 61 }
-    requires size { length packet.now ≤ 2 ^ 40 }
+    requires size { length packet.now ≤ max_packet_bytes }
     ensures ok { OnOk result (blocks.new.items ≡ blocks.old.items ++ simple_block block_time packet.now) }
     ensures given { IfOk result (λ given. packet_of given ≡ packet.now) }
     ensures err { OnErr result (blocks.new.items ≡ blocks.old.items) }
-    ensures put { Appends V.tells (V.held vault.old) (V.held vault.new)
+    ensures put { Appends V.tells (V.seen vault.old).held (V.seen vault.new).held
         (cluster_of time (blocks.old.items ++ simple_block block_time packet.now)) result }
-    ensures kept { KeepsBegun V.tells V.begun V.file V.faults vault.old vault.new }
-    ensures cause { WriteHasCause (V.faults vault.old) (V.faults vault.new) result }
+    ensures kept { KeepsBegun V.tells (V.seen vault.old) (V.seen vault.new) }
+    ensures cause { WriteHasCause (V.seen vault.old).faults (V.seen vault.new).faults result }
 {
     let before = blocks.len();
     let given = put_block(blocks, block_time, packet)?;

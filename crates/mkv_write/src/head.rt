@@ -1,6 +1,7 @@
 //! What stands before the first Cluster.
 
 ghost use Rattle.std.specs.Prelude.{◌≡◌, ◌≤◌, ◌+◌, ◌++◌, length, OnOk, IfOk};
+ghost use Rattle.tl_limits.specs.Limits.{max_record_bytes};
 ghost use Rattle.mkv_write.specs.File.{ebml_header, segment_head, info, video, track, lead};
 
 use crate::element::{UNKNOWN_SIZE, put_element, put_id, put_number, put_size};
@@ -60,7 +61,7 @@ fn put_video(alloc: Global, out: &mut Vec<u8>, width: u32, height: u32) -> Resul
 /// The content of the one track.
 #[tactic(auto, unfolding(crate::specs::File::track))]
 fn track(alloc: Global, private: &[u8], width: u32, height: u32) -> Result<Vec<u8>, AllocError>
-    requires { length private.now ≤ 65536 }
+    requires { length private.now ≤ max_record_bytes }
     ensures { IfOk result (λ bytes. bytes.items ≡ track private.now width height) }
 {
     let mut content = Vec::new(alloc);
@@ -82,7 +83,7 @@ pub(crate) fn lead(
     width: u32,
     height: u32,
 ) -> Result<Vec<u8>, AllocError>
-    requires { length private.now ≤ 65536 }
+    requires { length private.now ≤ max_record_bytes }
     ensures { IfOk result (λ bytes. bytes.items ≡ lead private.now width height) }
 {
     let mut bytes = Vec::new(alloc);

@@ -11,7 +11,6 @@ mod law;
 mod put;
 mod writer;
 
-pub use cluster::CLUSTER_FRAMES;
 pub use fault::WriteFault;
 pub use law::written_is_read_back;
 pub use writer::{MkvWriter, put_is_prefix};

@@ -9,10 +9,10 @@ use tl_ports::Vault;
 
 /// Puts bytes at the end of the begun file. After a fault a prefix of them was put.
 pub(crate) fn put<V: Vault>(vault: &mut V, bytes: &[u8]) -> Result<(), WriteFault>
-    requires { IsSome (V.begun vault.old) }
-    ensures put { Appends V.tells (V.held vault.old) (V.held vault.new) bytes.now result }
-    ensures kept { KeepsBegun V.tells V.begun V.file V.faults vault.old vault.new }
-    ensures cause { WriteHasCause (V.faults vault.old) (V.faults vault.new) result }
+    requires { IsSome (V.seen vault.old).begun }
+    ensures put { Appends V.tells (V.seen vault.old).held (V.seen vault.new).held bytes.now result }
+    ensures kept { KeepsBegun V.tells (V.seen vault.old) (V.seen vault.new) }
+    ensures cause { WriteHasCause (V.seen vault.old).faults (V.seen vault.new).faults result }
 {
     vault.append(bytes)?;
     Ok(())
@@ -24,10 +24,10 @@ pub(crate) fn put_both<V: Vault>(
     first: &[u8],
     second: &[u8],
 ) -> Result<(), WriteFault>
-    requires { IsSome (V.begun vault.old) }
-    ensures put { Appends V.tells (V.held vault.old) (V.held vault.new) (first.now ++ second.now) result }
-    ensures kept { KeepsBegun V.tells V.begun V.file V.faults vault.old vault.new }
-    ensures cause { WriteHasCause (V.faults vault.old) (V.faults vault.new) result }
+    requires { IsSome (V.seen vault.old).begun }
+    ensures put { Appends V.tells (V.seen vault.old).held (V.seen vault.new).held (first.now ++ second.now) result }
+    ensures kept { KeepsBegun V.tells (V.seen vault.old) (V.seen vault.new) }
+    ensures cause { WriteHasCause (V.seen vault.old).faults (V.seen vault.new).faults result }
 {
     put(vault, first)?;
     put(vault, second)?;

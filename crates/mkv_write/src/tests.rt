@@ -1,10 +1,11 @@
 //! The written file, byte by byte where it matters.
 
-ghost use Rattle.std.specs.Prelude.{◌≡◌, ◌+◌, ◌≤◌, ◌^◌, length, None, IsSome, IfOk, OnOk};
+ghost use Rattle.std.specs.Prelude.{IsTrue, ◌≡◌, ◌+◌, ◌≤◌, ◌^◌, length, None, IsSome, IfOk, OnOk};
+ghost use Rattle.tl_limits.specs.Limits.{IsRecordLength, IsRate};
 ghost use Rattle.mkv_write.specs.Writing.{put_of};
 
 use crate::{MkvWriter, WriteFault};
-use std::alloc::Global;
+use std::alloc::{AllocError, Global};
 use std::process::Abort;
 use std::test::Fail;
 use tl_ports::{MemVault, Vault};
@@ -24,11 +25,11 @@ fn begin<V: Vault>(
     private: &[u8],
     rate: u32,
 ) -> Result<MkvWriter, WriteFault>
-    requires begun { V.begun vault.old ≡ None }
-    requires private { (1 ≤ length private.now) × (length private.now ≤ 65536) }
-    requires rate { (1 ≤ rate) × (rate ≤ 240) }
-    ensures begun { OnOk result (IsSome (V.begun vault.new)) }
-    ensures held { IfOk result (λ writer. V.tells → V.held vault.new ≡ put_of writer) }
+    requires begun { (V.seen vault.old).begun ≡ None }
+    requires private { IsRecordLength (length private.now) }
+    requires rate { IsRate rate }
+    ensures begun { OnOk result (IsSome (V.seen vault.new).begun) }
+    ensures held { IfOk result (λ writer. IsTrue V.tells → (V.seen vault.new).held ≡ put_of writer) }
     ensures packets { IfOk result (λ writer. length writer.packets ≡ 0) }
 {
     vault.begin("o")?;
@@ -38,11 +39,11 @@ fn begin<V: Vault>(
 
 /// Gives the packet so many times.
 fn give<V: Vault>(writer: &mut MkvWriter, vault: &mut V, count: u32) -> Result<(), WriteFault>
-    requires begun { IsSome (V.begun vault.old) }
-    requires held { V.tells → V.held vault.old ≡ put_of writer.old }
+    requires begun { IsSome (V.seen vault.old).begun }
+    requires held { IsTrue V.tells → (V.seen vault.old).held ≡ put_of writer.old }
     requires room { length writer.old.packets + count ≤ 1000000 }
-    ensures begun { OnOk result (IsSome (V.begun vault.new)) }
-    ensures held { OnOk result (V.tells → V.held vault.new ≡ put_of writer.new) }
+    ensures begun { OnOk result (IsSome (V.seen vault.new).begun) }
+    ensures held { OnOk result (IsTrue V.tells → (V.seen vault.new).held ≡ put_of writer.new) }
     ensures packets { OnOk result (length writer.new.packets ≡ length writer.old.packets + count) }
 {
     for _ in 0..count {
@@ -58,8 +59,8 @@ fn written(
     rate: u32,
     frames: u32,
 ) -> Result<Vec<u8>, Fail>
-    requires private { (1 ≤ length private.now) × (length private.now ≤ 65536) }
-    requires rate { (1 ≤ rate) × (rate ≤ 240) }
+    requires private { IsRecordLength (length private.now) }
+    requires rate { IsRate rate }
     requires frames { (1 ≤ frames) × (frames ≤ 1000) }
 {
     let alloc = rt.alloc();
@@ -122,60 +123,60 @@ fn assert_len(rt: &impl Abort, vault: &MemVault, len: usize) {
     assert!(rt; file.map(|bytes| bytes.len()) == Some(len), "{len} bytes");
 }
 
+/// The Cues of two Clusters behind a record of `size` bytes: the times 0 and 1,000, and the places 94 and 566 after it.
+#[rattlefmt::skip]
+fn two_cues(alloc: Global, size: u64) -> Result<Vec<u8>, AllocError>
+    requires { size ≤ 65536 }
+{
+    let mut cues = Vec::new(alloc);
+    cues.extend_from_slice(&[0x1C, 0x53, 0xBB, 0x6B, 1, 0, 0, 0, 0, 0, 0, 54])?;
+    cues.extend_from_slice(&[0xBB, 0x99, 0xB3, 0x88, 0, 0, 0, 0, 0, 0, 0, 0])?;
+    cues.extend_from_slice(&[0xB7, 0x8D, 0xF7, 0x81, 1, 0xF1, 0x88])?;
+    cues.extend_from_slice(&(94 + size).to_be_bytes())?;
+    cues.extend_from_slice(&[0xBB, 0x99, 0xB3, 0x88, 0, 0, 0, 0, 0, 0, 3, 0xE8])?;
+    cues.extend_from_slice(&[0xB7, 0x8D, 0xF7, 0x81, 1, 0xF1, 0x88])?;
+    cues.extend_from_slice(&(566 + size).to_be_bytes())?;
+    Ok(cues)
+}
+
+/// Two Clusters behind a record of `size` bytes: the bytes that stand in the vault after each call.
+fn assert_streamed(rt: &(impl Abort + AllocGlobal), size: u32) -> Result<(), Fail>
+    requires { (1 ≤ size) × (size ≤ 65536) }
+{
+    let alloc = rt.alloc();
+    let record = vec![in alloc; 7u8; size as usize]?;
+    let mut vault = MemVault::start(alloc, Vec::new(alloc));
+    let mut writer = begin(alloc, &mut vault, &record, 25)?;
+    let size = size as usize;
+    assert_len(rt, &vault, 146 + size);
+    give(&mut writer, &mut vault, 24)?;
+    assert_len(rt, &vault, 146 + size);
+    give(&mut writer, &mut vault, 1)?;
+    assert_len(rt, &vault, 618 + size);
+    give(&mut writer, &mut vault, 1)?;
+    assert_len(rt, &vault, 618 + size);
+    assert_eq!(rt; writer.finish(&mut vault)?, 26);
+    assert_len(rt, &vault, 724 + size);
+    let file = vault.file("o").ok_or("the vault has the file")?;
+    let cues = two_cues(alloc, size as u64)?;
+    assert!(rt; file.get(CONTENT + 606 + size..) == Some(cues.as_slice()));
+    Ok(())
+}
+
 #[test]
 fn two_clusters(rt: HostRuntime) -> Result<(), Fail> {
-    let alloc = rt.alloc();
-    let mut vault = MemVault::start(alloc, Vec::new(alloc));
-    let mut writer = begin(alloc, &mut vault, &[7, 7, 7], 25)?;
-    is_sent(&writer);
-    assert_len(&rt, &vault, 149);
-    give(&mut writer, &mut vault, 24)?;
-    assert_len(&rt, &vault, 149);
-    give(&mut writer, &mut vault, 1)?;
-    assert_len(&rt, &vault, 621);
-    give(&mut writer, &mut vault, 1)?;
-    assert_len(&rt, &vault, 621);
-    assert_eq!(rt; writer.finish(&mut vault)?, 26);
-    assert_len(&rt, &vault, 727);
-    let file = vault.file("o").ok_or("the vault has the file")?;
-    // The Cues, the last 66 bytes: the times 0 and 1,000, and the places 97 and 569.
-    assert_at(
-        &rt,
-        file,
-        609,
-        &[0x1C, 0x53, 0xBB, 0x6B, 1, 0, 0, 0, 0, 0, 0, 54],
-    );
-    assert_at(
-        &rt,
-        file,
-        621,
-        &[0xBB, 0x99, 0xB3, 0x88, 0, 0, 0, 0, 0, 0, 0, 0],
-    );
-    assert_at(
-        &rt,
-        file,
-        633,
-        &[
-            0xB7, 0x8D, 0xF7, 0x81, 1, 0xF1, 0x88, 0, 0, 0, 0, 0, 0, 0, 97,
-        ],
-    );
-    assert_at(
-        &rt,
-        file,
-        648,
-        &[0xBB, 0x99, 0xB3, 0x88, 0, 0, 0, 0, 0, 0, 3, 0xE8],
-    );
-    assert_at(
-        &rt,
-        file,
-        660,
-        &[
-            0xB7, 0x8D, 0xF7, 0x81, 1, 0xF1, 0x88, 0, 0, 0, 0, 0, 0, 2, 0x39,
-        ],
-    );
+    for size in [1, 3, 256] {
+        assert_streamed(&rt, size)?;
+    }
+    Ok(())
+}
 
-    let mut failing = MemVault::start(alloc, vec![in alloc; 2]?);
-    let outcome = begin(alloc, &mut failing, &[7], 25);
+#[test]
+fn failing_vault(rt: HostRuntime) -> Result<(), Fail> {
+    let alloc = rt.alloc();
+    let mut vault = MemVault::start(alloc, vec![in alloc; 2]?);
+    let outcome = begin(alloc, &mut vault, &[7], 25);
     assert!(rt; matches!(outcome, Err(WriteFault::Sink)));
+    is_sent(&outcome);
     Ok(())
 }

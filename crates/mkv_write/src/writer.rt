@@ -1,14 +1,13 @@
 //! The writer: packets in, a Matroska file out, a Cluster at a time.
 
-ghost use Rattle.std.specs.Prelude.{◌≡◌, ℕ, ◌+◌, ◌%◌, ◌<◌, ◌≤◌, ◌^◌, ◌++◌, ◌∷◌, [], List, length, IsSome, IfOk, OnOk, OnErr};
+ghost use Rattle.std.specs.Prelude.{IsTrue, ◌≡◌, ℕ, ◌+◌, ◌%◌, ◌<◌, ◌≤◌, ◌^◌, ◌++◌, ◌∷◌, [], List, length, IsSome, IfOk, OnOk, OnErr};
+ghost use Rattle.tl_limits.specs.Limits.{IsSide, IsRecordLength, IsRate, max_frames, max_packet_bytes, cluster_frames};
 ghost use Rattle.tl_ports.specs.Outside.{KeepsBegun};
-ghost use Rattle.mkv_write.specs.File.{mkv, head, cluster_frames, clusters, cue_points, cluster_count};
+ghost use Rattle.mkv_write.specs.File.{mkv, head, clusters, cue_points, cluster_count};
 ghost use Rattle.mkv_write.specs.Keeping.{lead_length, points_of};
 ghost use Rattle.mkv_write.specs.Writing.{Writing, nothing_yet, with_packet, put_of, file_of, Puts, IsPrefix, WriteHasCause};
 
-use crate::cluster::{
-    CLUSTER_FRAMES, block_time, cluster_time, put_block, put_cluster, put_full_cluster,
-};
+use crate::cluster::{block_time, cluster_time, put_block, put_cluster, put_full_cluster};
 use crate::cue::{Cue, cues};
 use crate::fault::WriteFault;
 use crate::head::{lead, preamble};
@@ -16,6 +15,7 @@ use crate::history::History;
 use crate::put::{put, put_both};
 use std::alloc::{AllocError, Global};
 use std::marker::Model;
+use tl_limits::CLUSTER_FRAMES;
 use tl_ports::Vault;
 
 /// What stands before the blocks in a Cluster: its number of bytes.
@@ -70,16 +70,16 @@ impl MkvWriter {
         private: &[u8],
         rate: u32,
     ) -> Result<MkvWriter, WriteFault>
-        requires begun { IsSome (V.begun vault.old) }
-        requires empty { V.tells → V.held vault.old ≡ [] }
-        requires width { (1 ≤ width) × (width ≤ 8192) }
-        requires height { (1 ≤ height) × (height ≤ 8192) }
-        requires private { (1 ≤ length private.now) × (length private.now ≤ 65536) }
-        requires rate { (1 ≤ rate) × (rate ≤ 240) }
+        requires begun { IsSome (V.seen vault.old).begun }
+        requires empty { IsTrue V.tells → (V.seen vault.old).held ≡ [] }
+        requires width { IsSide width }
+        requires height { IsSide height }
+        requires private { IsRecordLength (length private.now) }
+        requires rate { IsRate rate }
         ensures started { IfOk result (λ writer. writer ≡ nothing_yet private.now width height rate) }
-        ensures put { Puts V.tells (V.held vault.new) (put_of (nothing_yet private.now width height rate)) result }
-        ensures kept { KeepsBegun V.tells V.begun V.file V.faults vault.old vault.new }
-        ensures cause { WriteHasCause (V.faults vault.old) (V.faults vault.new) result }
+        ensures put { Puts V.tells (V.seen vault.new).held (put_of (nothing_yet private.now width height rate)) result }
+        ensures kept { KeepsBegun V.tells (V.seen vault.old) (V.seen vault.new) }
+        ensures cause { WriteHasCause (V.seen vault.old).faults (V.seen vault.new).faults result }
     {
         let history = History::new(alloc, private, width, height)?;
         let preamble = preamble(alloc)?;
@@ -100,15 +100,15 @@ impl MkvWriter {
     /// writer is as before. What was put is then a prefix of the file over the earlier packets, this one, and any that
     /// would follow.
     pub fn frame<V: Vault>(&mut self, vault: &mut V, packet: &[u8]) -> Result<(), WriteFault>
-        requires begun { IsSome (V.begun vault.old) }
-        requires held { V.tells → V.held vault.old ≡ put_of self.old }
-        requires frames { length self.old.packets < 1000000 }
-        requires size { length packet.now ≤ 2 ^ 40 }
+        requires begun { IsSome (V.seen vault.old).begun }
+        requires held { IsTrue V.tells → (V.seen vault.old).held ≡ put_of self.old }
+        requires frames { length self.old.packets < max_frames }
+        requires size { length packet.now ≤ max_packet_bytes }
         ensures added { OnOk result (self.new ≡ with_packet self.old packet.now) }
         ensures same { OnErr result (self.new ≡ self.old) }
-        ensures put { Puts V.tells (V.held vault.new) (put_of (with_packet self.old packet.now)) result }
-        ensures kept { KeepsBegun V.tells V.begun V.file V.faults vault.old vault.new }
-        ensures cause { WriteHasCause (V.faults vault.old) (V.faults vault.new) result }
+        ensures put { Puts V.tells (V.seen vault.new).held (put_of (with_packet self.old packet.now)) result }
+        ensures kept { KeepsBegun V.tells (V.seen vault.old) (V.seen vault.new) }
+        ensures cause { WriteHasCause (V.seen vault.old).faults (V.seen vault.new).faults result }
     {
         if self.frames % CLUSTER_FRAMES == CLUSTER_FRAMES - 1 {
             self.end_cluster(vault, packet)?;
@@ -121,8 +121,8 @@ impl MkvWriter {
 
     /// Keeps a packet that isn't the last of its Cluster.
     fn gather(&mut self, packet: &[u8]) -> Result<(), AllocError>
-        requires frames { length self.old.packets < 1000000 }
-        requires size { length packet.now ≤ 2 ^ 40 }
+        requires frames { length self.old.packets < max_frames }
+        requires size { length packet.now ≤ max_packet_bytes }
         requires early { length self.old.packets % cluster_frames + 1 < cluster_frames }
         ensures added { OnOk result (self.new ≡ with_packet self.old packet.now) }
         ensures same { OnErr result (self.new ≡ self.old) }
@@ -137,16 +137,16 @@ impl MkvWriter {
 
     /// Puts the open Cluster, of which this packet is the last.
     fn end_cluster<V: Vault>(&mut self, vault: &mut V, packet: &[u8]) -> Result<(), WriteFault>
-        requires begun { IsSome (V.begun vault.old) }
-        requires held { V.tells → V.held vault.old ≡ put_of self.old }
-        requires frames { length self.old.packets < 1000000 }
-        requires size { length packet.now ≤ 2 ^ 40 }
+        requires begun { IsSome (V.seen vault.old).begun }
+        requires held { IsTrue V.tells → (V.seen vault.old).held ≡ put_of self.old }
+        requires frames { length self.old.packets < max_frames }
+        requires size { length packet.now ≤ max_packet_bytes }
         requires last { length self.old.packets % cluster_frames + 1 ≡ cluster_frames }
         ensures added { OnOk result (self.new ≡ with_packet self.old packet.now) }
         ensures same { OnErr result (self.new ≡ self.old) }
-        ensures put { Puts V.tells (V.held vault.new) (put_of (with_packet self.old packet.now)) result }
-        ensures kept { KeepsBegun V.tells V.begun V.file V.faults vault.old vault.new }
-        ensures cause { WriteHasCause (V.faults vault.old) (V.faults vault.new) result }
+        ensures put { Puts V.tells (V.seen vault.new).held (put_of (with_packet self.old packet.now)) result }
+        ensures kept { KeepsBegun V.tells (V.seen vault.old) (V.seen vault.new) }
+        ensures cause { WriteHasCause (V.seen vault.old).faults (V.seen vault.new).faults result }
     {
         self.history.packets.reserve(1)?;
         self.cues.reserve(1)?;
@@ -174,13 +174,13 @@ impl MkvWriter {
     /// Puts the rest of the file, the Cluster that isn't full and the Cues, and answers how many frames it has. After a
     /// fault a prefix of the file was put.
     pub fn finish<V: Vault>(self, vault: &mut V) -> Result<u32, WriteFault>
-        requires begun { IsSome (V.begun vault.old) }
-        requires held { V.tells → V.held vault.old ≡ put_of self }
+        requires begun { IsSome (V.seen vault.old).begun }
+        requires held { IsTrue V.tells → (V.seen vault.old).held ≡ put_of self }
         requires frames { 1 ≤ length self.packets }
         ensures frames { IfOk result (λ frames. frames ≡ length self.packets) }
-        ensures put { Puts V.tells (V.held vault.new) (file_of self) result }
-        ensures kept { KeepsBegun V.tells V.begun V.file V.faults vault.old vault.new }
-        ensures cause { WriteHasCause (V.faults vault.old) (V.faults vault.new) result }
+        ensures put { Puts V.tells (V.seen vault.new).held (file_of self) result }
+        ensures kept { KeepsBegun V.tells (V.seen vault.old) (V.seen vault.new) }
+        ensures cause { WriteHasCause (V.seen vault.old).faults (V.seen vault.new).faults result }
     {
         let alloc = self.alloc;
         let frames = self.frames;
@@ -192,15 +192,15 @@ impl MkvWriter {
 
     /// Puts the Cluster that isn't full, if there is one. Answers the Cues of all Clusters.
     fn put_last<V: Vault>(self, vault: &mut V) -> Result<Vec<Cue>, WriteFault>
-        requires begun { IsSome (V.begun vault.old) }
-        requires held { V.tells → V.held vault.old ≡ put_of self }
+        requires begun { IsSome (V.seen vault.old).begun }
+        requires held { IsTrue V.tells → (V.seen vault.old).held ≡ put_of self }
         ensures cues { IfOk result (λ cues. points_of cues.items
             ≡ cue_points (lead_length self) self.rate self.packets (cluster_count (length self.packets))) }
-        ensures put { Puts V.tells (V.held vault.new)
+        ensures put { Puts V.tells (V.seen vault.new).held
             (head self.private self.width self.height
             ++ clusters self.rate self.packets (cluster_count (length self.packets))) result }
-        ensures kept { KeepsBegun V.tells V.begun V.file V.faults vault.old vault.new }
-        ensures cause { WriteHasCause (V.faults vault.old) (V.faults vault.new) result }
+        ensures kept { KeepsBegun V.tells (V.seen vault.old) (V.seen vault.new) }
+        ensures cause { WriteHasCause (V.seen vault.old).faults (V.seen vault.new).faults result }
     {
         if self.frames % CLUSTER_FRAMES == 0 {
             return Ok(self.cues);

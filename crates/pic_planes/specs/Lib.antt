@@ -1,1 +1,5 @@
 pub mod Shape
+pub mod Picture
+pub mod Bytes
+pub mod Lending
+pub mod Lends

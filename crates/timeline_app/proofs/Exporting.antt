@@ -2,7 +2,7 @@
 use Rattle.std.proofs.Common.{◌≡◌, ◌⊎◌, ℕ, ◌+◌, ◌≤◌, ◌<◌, List, [], ◌∷◌, ◌++◌, get_or, append_assoc, take-append-drop, length, map, take, drop, Option, Some, Result, Ok, Err, refl, sym, ap, ◌∙◌, subst, inl, inr, arith}
 use Rattle.std.proofs.lemmas.List.{append-nil, take_more, take-map, map_push, length-map, length-take-le}
 use Rattle.mkv_read.specs.declared.clip.Place.{Place}
-use Rattle.std.specs.Prelude.{IfOk}
+use Rattle.std.specs.Prelude.{Bool, IsTrue, IfOk}
 use Rattle.tl_ports.specs.Outside.{Rose, PutHasCause}
 use Rattle.tl_ports.specs.declared.fault.PutFault.{PutFault}
 use Rattle.tl_ports.specs.declared.fault.PutFault.TheVariants as putting
@@ -70,9 +70,9 @@ frames_given w given script bytes text clip places w_is text_is places_is given_
     ∙ ap (with_packets (started_over script bytes clip)) (clip_packets script bytes text clip places text_is places_is)
 
 -- The finished file.
-pub finishes : (tells : Type 0) (held : List ℕ) (script : Form) (bytes : List ℕ) (clip : ClipIndex) (w : Writing) (result : Result ℕ WriteFault)
+pub finishes : (tells : Bool) (held : List ℕ) (script : Form) (bytes : List ℕ) (clip : ClipIndex) (w : Writing) (result : Result ℕ WriteFault)
     → w ≡ with_packets (started_over script bytes clip) (map (bytes_at bytes) (take script.len clip.packets)) → IsInside script clip
-    → IfOk result (λ frames. frames ≡ length w.packets) → Puts tells held (file_of w) result → WritesExport tells held script bytes clip result
+    → IfOk result (λ frames. frames ≡ length w.packets) → Puts tells held (file_of w) result → WritesExport (IsTrue tells) held script bytes clip result
 finishes tells held script bytes clip w (Ok frames) same inside counted put =
     let all : length w.packets ≡ length (map (bytes_at bytes) (take script.len clip.packets)) = ap (λ (x : Writing). length x.packets) same in
     let mapped = length-map (take script.len clip.packets) (bytes_at bytes) in

@@ -9,7 +9,7 @@ use Rattle.timeline_app.specs.declared.stop.Stop.{Stop}
 use Rattle.timeline_app.specs.declared.stop.Stop.TheVariants as stops
 use Rattle.timeline_app.specs.Script.{Form, script_of}
 use Rattle.timeline_app.specs.Run.{Count, Rises, IsScript, IsUnfetched, StopHasCause, stop_status}
-use Rattle.timeline_app.specs.Top.{Works, Stopped, IsFaulty, Runs}
+use Rattle.timeline_app.specs.Top.{Works, Stopped, IsFaulty, RunsBy}
 
 same_bytes : {A : Type 0} (kept : Option A) (x y : A) → kept ≡ Some x → kept ≡ Some y → x ≡ y
 same_bytes kept x y first second = cc
@@ -25,11 +25,11 @@ unfetched : {X : Type 0} (tells : Type 0) (kept : Option (List ℕ)) (limit : �
     → tells → (rose → ⊥) → kept ≡ Some bytes → length bytes ≤ limit → X
 unfetched tells kept limit rose fetching.Failed bytes h told calm is size = absurd (calm h)
 unfetched tells kept limit rose fetching.Missing bytes (inl h) told calm is size = let lacks = h.1 in absurd cc
-unfetched tells kept limit rose fetching.Missing bytes (inr h) told calm is size = absurd (h.0 told)
+unfetched tells kept limit rose fetching.Missing bytes (inr h) told calm is size = absurd (calm h)
 unfetched tells kept limit rose (fetching.TooLarge of) bytes (inl h) told calm is size =
     let same : h.1.0 ≡ bytes = same_bytes kept h.1.0 bytes h.1.1 is in
     absurd (omega (arith, ap length same, h.1.2))
-unfetched tells kept limit rose (fetching.TooLarge of) bytes (inr h) told calm is size = absurd (h.0 told)
+unfetched tells kept limit rose (fetching.TooLarge of) bytes (inr h) told calm is size = absurd (calm h)
 unfetched tells kept limit rose fetching.NoMemory bytes h told calm is size = absurd h
 
 -- A faulty script isn't of the form, or its clip, that of this script, has a fault.
@@ -72,7 +72,7 @@ stopped_then tells faults file name ot or before after stopped told calm faulty 
     stop_then tells file name faults stopped.stop (subst (λ (n : List ℕ). StopHasCause tells file n faults stopped.stop) of stopped.cause) stopped.status_is told calm faulty
 
 pub three_or_five : (asked : Option (List ℕ)) (name : List ℕ) (tells : Type 0) (faults : Count) (file : List ℕ → Option (List ℕ)) (vault_tells : Type 0) (vault_faults : Count) (old new : List ℕ → Option (List ℕ))
-    (out_tells : Type 0) (out_faults : Count) (before after : List (List ℕ)) (status : ℕ) → Runs asked tells faults file vault_tells vault_faults old new out_tells out_faults before after status
+    (out_tells : Type 0) (out_faults : Count) (before after : List (List ℕ)) (status : ℕ) → RunsBy asked tells faults file vault_tells vault_faults old new out_tells out_faults before after status
     → asked ≡ Some name → tells → (Rises faults → ⊥) → IsFaulty file name → (status ≡ 3) ⊎ (status ≡ 5)
 three_or_five asked name tells faults file vt vf old new ot outf before after status runs asked_is told calm faulty = elim runs.no_other [
   | inl zero ↦

@@ -2,7 +2,7 @@
 use Rattle.std.proofs.Common.{◌≡◌, ◌⊎◌, ℕ, Bool, true, false, List, [], ◌∷◌, ◌++◌, Option, Some, None, Result, Ok, Err, refl, sym, ap, ◌∙◌, inl, inr, arith}
 use Rattle.std.specs.Str.{bytes_eq}
 use Rattle.std.proofs.lemmas.Slice.Eq.{bytes_eq-Decides}
-use Rattle.tl_ports.specs.Outside.{KeepsOthers}
+use Rattle.timeline_app.specs.Run.{KeepsOtherFiles}
 use Rattle.tl_ports.specs.declared.fault.PutFault.{PutFault}
 use Rattle.tl_ports.specs.declared.fault.PutFault.TheVariants as putting
 use Rattle.mkv_read.specs.declared.clip.ClipIndex.{ClipIndex}
@@ -12,7 +12,7 @@ use Rattle.timeline_app.specs.declared.stop.Stop.TheVariants as stops
 use Rattle.timeline_app.specs.Script.{Form}
 use Rattle.timeline_app.specs.Lines.{usage_line, refused_lines, memory_line}
 use Rattle.timeline_app.specs.Run.{Count, Rises, IsCalm, IsJob, IsInside, IsPartial, Says, Puts, PutsSome, StopsWith, StopHasCause, stop_line, stop_status, status_after, ChangesExport, Plays, export_lines}
-use Rattle.timeline_app.specs.Top.{Works, Stopped, ChangesOnlyExport, SaysTranscript, RunsOut, Runs}
+use Rattle.timeline_app.specs.Top.{Works, Stopped, ChangesOnlyExport, SaysTranscript, RunsOut, RunsBy}
 use Rattle.timeline_app.proofs.Saying.{whole_front, some_front}
 
 -- The last line decides only between its status and want of memory.
@@ -25,7 +25,7 @@ stops_with tells faults before after line (Err putting.NoMemory) status h = reco
 -- The words aren't of the form, and memory may have run out.
 misused_by : (tells : Type 0) (faults : Count) (file : List ℕ → Option (List ℕ)) (vault_tells : Type 0) (vault_count : ℕ) (old : List ℕ → Option (List ℕ)) (out_tells : Type 0) (out_faults : Count) (before after : List (List ℕ)) (status : ℕ)
     → IsCalm faults → ((status ≡ 5) × IsCalm out_faults × PutsSome out_tells before after (usage_line ∷ [])) ⊎ ((status ≡ 2) × Puts out_tells (Rises out_faults) before after usage_line) → SaysTranscript None tells faults file vault_tells (vault_count, vault_count) old out_tells before after
-    → Runs None tells faults file vault_tells (vault_count, vault_count) old old out_tells out_faults before after status
+    → RunsBy None tells faults file vault_tells (vault_count, vault_count) old old out_tells out_faults before after status
 misused_by tells faults file vt vf old ot outf before after status fetched (inl (memory, calm, some)) lines = record {
   played = λ e. absurd (omega (arith, e, memory));
   calm = λ e. absurd (omega (arith, e, memory));
@@ -55,7 +55,7 @@ misused_by tells faults file vt vf old ot outf before after status fetched (inr 
 
 -- The words aren't of the form.
 pub run_misused : (tells : Type 0) (faults : Count) (file : List ℕ → Option (List ℕ)) (vault_tells : Type 0) (vault_count : ℕ) (old : List ℕ → Option (List ℕ)) (out_tells : Type 0) (out_faults : Count) (before after : List (List ℕ)) (status : ℕ)
-    → IsCalm faults → StopsWith out_tells out_faults before after usage_line 2 status → Runs None tells faults file vault_tells (vault_count, vault_count) old old out_tells out_faults before after status
+    → IsCalm faults → StopsWith out_tells out_faults before after usage_line 2 status → RunsBy None tells faults file vault_tells (vault_count, vault_count) old old out_tells out_faults before after status
 run_misused tells faults file vt vf old ot outf before after status fetched h = misused_by tells faults file vt vf old ot outf before after status fetched h.ended (usage_line ∷ [], inl (refl, refl), h.said)
 
 -- a name that is there is none that isn't
@@ -64,7 +64,7 @@ named name e = absurd cc
 
 -- The session didn't start, for want of memory.
 early_memory : (name : List ℕ) (tells : Type 0) (faults : Count) (file : List ℕ → Option (List ℕ)) (vault_tells : Type 0) (vault_count : ℕ) (old : List ℕ → Option (List ℕ)) (out_tells : Type 0) (out_faults : Count) (before after : List (List ℕ)) (status : ℕ)
-    → status ≡ 5 → RunsOut (Some name) tells faults file vault_tells (vault_count, vault_count) old out_tells out_faults before after → SaysTranscript (Some name) tells faults file vault_tells (vault_count, vault_count) old out_tells before after → Runs (Some name) tells faults file vault_tells (vault_count, vault_count) old old out_tells out_faults before after status
+    → status ≡ 5 → RunsOut (Some name) tells faults file vault_tells (vault_count, vault_count) old out_tells out_faults before after → SaysTranscript (Some name) tells faults file vault_tells (vault_count, vault_count) old out_tells before after → RunsBy (Some name) tells faults file vault_tells (vault_count, vault_count) old old out_tells out_faults before after status
 early_memory name tells faults file vt vf old ot outf before after status memory how lines = record {
   played = λ e. absurd (omega (arith, e, memory));
   calm = λ e. absurd (omega (arith, e, memory));
@@ -81,7 +81,7 @@ early_memory name tells faults file vt vf old ot outf before after status memory
 
 -- The session didn't start, for a cause of status 3 or 4.
 early_three : (name : List ℕ) (tells : Type 0) (faults : Count) (file : List ℕ → Option (List ℕ)) (vault_tells : Type 0) (vault_count : ℕ) (old : List ℕ → Option (List ℕ)) (out_tells : Type 0) (out_faults : Count) (before after : List (List ℕ)) (status : ℕ)
-    → status ≡ 3 → Stopped 3 (Some name) tells faults file out_tells (Rises out_faults) before after → SaysTranscript (Some name) tells faults file vault_tells (vault_count, vault_count) old out_tells before after → Runs (Some name) tells faults file vault_tells (vault_count, vault_count) old old out_tells out_faults before after status
+    → status ≡ 3 → Stopped 3 (Some name) tells faults file out_tells (Rises out_faults) before after → SaysTranscript (Some name) tells faults file vault_tells (vault_count, vault_count) old out_tells before after → RunsBy (Some name) tells faults file vault_tells (vault_count, vault_count) old old out_tells out_faults before after status
 early_three name tells faults file vt vf old ot outf before after status three h lines = record {
   played = λ e. absurd (omega (arith, e, three));
   calm = λ e. absurd (omega (arith, e, three));
@@ -97,7 +97,7 @@ early_three name tells faults file vt vf old ot outf before after status three h
 }
 
 early_four : (name : List ℕ) (tells : Type 0) (faults : Count) (file : List ℕ → Option (List ℕ)) (vault_tells : Type 0) (vault_count : ℕ) (old : List ℕ → Option (List ℕ)) (out_tells : Type 0) (out_faults : Count) (before after : List (List ℕ)) (status : ℕ)
-    → status ≡ 4 → Stopped 4 (Some name) tells faults file out_tells (Rises out_faults) before after → SaysTranscript (Some name) tells faults file vault_tells (vault_count, vault_count) old out_tells before after → Runs (Some name) tells faults file vault_tells (vault_count, vault_count) old old out_tells out_faults before after status
+    → status ≡ 4 → Stopped 4 (Some name) tells faults file out_tells (Rises out_faults) before after → SaysTranscript (Some name) tells faults file vault_tells (vault_count, vault_count) old out_tells before after → RunsBy (Some name) tells faults file vault_tells (vault_count, vault_count) old old out_tells out_faults before after status
 early_four name tells faults file vt vf old ot outf before after status four h lines = record {
   played = λ e. absurd (omega (arith, e, four));
   calm = λ e. absurd (omega (arith, e, four));
@@ -115,7 +115,7 @@ early_four name tells faults file vt vf old ot outf before after status four h l
 -- The session didn't start: its status is that of its cause, or memory ran out.
 stopped_by : (name : List ℕ) (tells : Type 0) (faults : Count) (file : List ℕ → Option (List ℕ)) (vault_tells : Type 0) (vault_count : ℕ) (old : List ℕ → Option (List ℕ)) (out_tells : Type 0) (out_faults : Count) (before after : List (List ℕ)) (stop : Stop) (status : ℕ)
     → StopHasCause tells file name faults stop → StopsWith out_tells out_faults before after (stop_line stop) (stop_status stop) status → ((status ≡ 5) × IsCalm out_faults × PutsSome out_tells before after (stop_line stop ∷ [])) ⊎ ((status ≡ stop_status stop) × Puts out_tells (Rises out_faults) before after (stop_line stop)) → SaysTranscript (Some name) tells faults file vault_tells (vault_count, vault_count) old out_tells before after
-    → Runs (Some name) tells faults file vault_tells (vault_count, vault_count) old old out_tells out_faults before after status
+    → RunsBy (Some name) tells faults file vault_tells (vault_count, vault_count) old old out_tells out_faults before after status
 stopped_by name tells faults file vt vf old ot outf before after stop status cause ends (inl (memory, calm, some)) lines =
     early_memory name tells faults file vt vf old ot outf before after status memory (stop_line stop ∷ [], inr (inl (name, refl, (stop, cause, refl))), inl (calm, some)) lines
 stopped_by name tells faults file vt vf old ot outf before after (stops.Unfetched of fault) status cause ends (inr h) lines =
@@ -130,7 +130,7 @@ stopped_by name tells faults file vt vf old ot outf before after stops.NoMemory 
 -- The session didn't start.
 pub run_stopped : (name : List ℕ) (tells : Type 0) (faults : Count) (file : List ℕ → Option (List ℕ)) (vault_tells : Type 0) (vault_count : ℕ) (old : List ℕ → Option (List ℕ)) (out_tells : Type 0) (out_faults : Count) (before after : List (List ℕ)) (stop : Stop) (status : ℕ)
     → StopHasCause tells file name faults stop → StopsWith out_tells out_faults before after (stop_line stop) (stop_status stop) status
-    → Runs (Some name) tells faults file vault_tells (vault_count, vault_count) old old out_tells out_faults before after status
+    → RunsBy (Some name) tells faults file vault_tells (vault_count, vault_count) old old out_tells out_faults before after status
 run_stopped name tells faults file vt vf old ot outf before after stop status cause h =
     stopped_by name tells faults file vt vf old ot outf before after stop status cause h h.ended (stop_line stop ∷ [], inr (inl (name, refl, (stop, cause, refl))), h.said)
 
@@ -149,7 +149,7 @@ one_of status (inr h) = inr (inr (inr h))
 
 -- A file is the export's or another.
 changes : (name : List ℕ) (tells : Type 0) (file : List ℕ → Option (List ℕ)) (vault_tells : Type 0) (old new : List ℕ → Option (List ℕ)) (script : Form) (bytes : List ℕ) (clip : ClipIndex)
-    → Works (Some name) tells file script bytes clip → IsInside script clip → ChangesExport vault_tells (old script.export) (new script.export) script bytes clip → KeepsOthers vault_tells script.export old new
+    → Works (Some name) tells file script bytes clip → IsInside script clip → ChangesExport vault_tells (old script.export) (new script.export) script bytes clip → KeepsOtherFiles vault_tells script.export old new
     → ChangesOnlyExport (Some name) tells file vault_tells old new
 changes name tells file vt old new script bytes clip works inside own others told other = at (bytes_eq other script.export) refl
   where
@@ -167,7 +167,7 @@ changes name tells file vt old new script bytes clip works inside own others tol
 -- The script was played.
 pub run_played : (name : List ℕ) (tells : Type 0) (faults : Count) (file : List ℕ → Option (List ℕ)) (vault_tells : Type 0) (vault_faults : Count) (old new : List ℕ → Option (List ℕ)) (out_tells : Type 0) (out_faults : Count) (before after : List (List ℕ))
     (script : Form) (bytes : List ℕ) (clip : ClipIndex) (status : ℕ) → IsJob tells file name script bytes clip → IsCalm faults → Plays vault_tells vault_faults old new out_tells out_faults before after script bytes clip status
-    → Runs (Some name) tells faults file vault_tells vault_faults old new out_tells out_faults before after status
+    → RunsBy (Some name) tells faults file vault_tells vault_faults old new out_tells out_faults before after status
 run_played name tells faults file vt vf old new ot outf before after script bytes clip status job fetched (inl (inside, h, asked)) =
     let works : Works (Some name) tells file script bytes clip = record { of = name; named = refl; job = job } in
     record {

@@ -2,7 +2,7 @@
 use Rattle.std.proofs.Common.{◌≡◌, ℕ, zero, suc, ◌+◌, List, [], ◌∷◌, ◌++◌, length, take, Option, Result, Ok, Err, refl, sym, ap, ◌∙◌, subst, inl, inr, arith, append_assoc}
 use Rattle.std.proofs.lemmas.List.{length-append, take-append-le}
 use Rattle.std.proofs.Math.Seq.{take-append-add}
-use Rattle.tl_ports.specs.Outside.{KeepsOthers}
+use Rattle.timeline_app.specs.Run.{KeepsOtherFiles}
 use Rattle.tl_ports.specs.declared.fault.PutFault.{PutFault}
 use Rattle.tl_ports.specs.declared.fault.PutFault.TheVariants as putting
 use Rattle.mkv_read.specs.declared.clip.ClipIndex.{ClipIndex}
@@ -91,7 +91,7 @@ refusal_done tells faults before after said =
 -- A line of the export that was refused stops the session.
 pub export_stopped : (vault_tells : Type 0) (vault_faults : Count) (old new : List ℕ → Option (List ℕ)) (tells : Type 0) (faults : Count) (before after : List (List ℕ)) (lines : Ending → List (List ℕ))
     (script : Form) (bytes : List ℕ) (clip : ClipIndex) (ending : Ending) (fault : PutFault) → Says tells before after (lines ending) faults (Err fault)
-    → ChangesExport vault_tells (old script.export) (new script.export) script bytes clip → KeepsOthers vault_tells script.export old new
+    → ChangesExport vault_tells (old script.export) (new script.export) script bytes clip → KeepsOtherFiles vault_tells script.export old new
     → EndsExport vault_tells new vault_faults script bytes clip ending
     → PlaysExport vault_tells vault_faults old new tells faults before after lines script bytes clip (fault_status fault)
 export_stopped vt vf old new tells faults before after lines script bytes clip ending putting.Failed h file files ended =
@@ -102,7 +102,7 @@ export_stopped vt vf old new tells faults before after lines script bytes clip e
 -- Every line was put: the ending decides.
 pub export_ended : (vault_tells : Type 0) (vault_faults : Count) (old new : List ℕ → Option (List ℕ)) (tells : Type 0) (faults : Count) (before after : List (List ℕ)) (lines : Ending → List (List ℕ))
     (script : Form) (bytes : List ℕ) (clip : ClipIndex) (ending : Ending) → EndsExport vault_tells new vault_faults script bytes clip ending → Says tells before after (lines ending) faults (Ok tt)
-    → ChangesExport vault_tells (old script.export) (new script.export) script bytes clip → KeepsOthers vault_tells script.export old new
+    → ChangesExport vault_tells (old script.export) (new script.export) script bytes clip → KeepsOtherFiles vault_tells script.export old new
     → PlaysExport vault_tells vault_faults old new tells faults before after lines script bytes clip (ending_status ending)
 export_ended vt vf old new tells faults before after lines script bytes clip (endings.Done frames) h said file files =
     record {

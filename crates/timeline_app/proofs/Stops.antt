@@ -1,5 +1,5 @@
 -- Why a session doesn't start, joined over its two fetches.
-use Rattle.std.proofs.Common.{◌≡◌, ◌≢◌, refl, ℕ, ◌≤◌, List, Option, Result, Err, subst, inr, arith}
+use Rattle.std.proofs.Common.{◌≡◌, ◌≢◌, refl, ℕ, ◌≤◌, List, Option, Result, Err, subst, ap, inr, arith}
 use Rattle.tl_ports.specs.Outside.{Rose}
 use Rattle.mkv_read.specs.declared.clip.ClipIndex.{ClipIndex}
 use Rattle.timeline_app.specs.declared.stop.Stop.{Stop}
@@ -16,14 +16,14 @@ pub rose_later : (before between now : ℕ) → before ≤ between → Rose betw
 rose_later before between now le rose = omega arith
 
 -- What stops a session at its clip, over a store that tells the same files, after a call that left the count as it was.
-moved : (tells : Type 0) (file now : List ℕ → Option (List ℕ)) (name : List ℕ) (before between after : ℕ) (stop : Stop) → ((other : List ℕ) → now other ≡ file other) → between ≡ before
+moved : (tells : Type 0) (file now : List ℕ → Option (List ℕ)) (name : List ℕ) (before between after : ℕ) (stop : Stop) → now ≡ file → between ≡ before
     → IsClipStop tells (now name) name (between, after) stop → IsClipStop tells (file name) name (before, after) stop
 moved tells file now name before between after stop same calm h =
-    subst (λ (kept : Option (List ℕ)). IsClipStop tells kept name (before, after) stop) (same name) (subst (λ (n : ℕ). IsClipStop tells (now name) name (n, after) stop) calm h)
+    subst (λ (kept : Option (List ℕ)). IsClipStop tells kept name (before, after) stop) (ap (λ (of : List ℕ → Option (List ℕ)). of name) same) (subst (λ (n : ℕ). IsClipStop tells (now name) name (n, after) stop) calm h)
 
 -- What stops a session at its clip stops it after a script of the form.
 pub at_clip : (tells : Type 0) (file now : List ℕ → Option (List ℕ)) (name : List ℕ) (before between after : ℕ) (script : Form) (stop : Stop)
-    → IsScript tells file name script → ((other : List ℕ) → now other ≡ file other) → between ≡ before → IsClipStop tells (now script.file) script.file (between, after) stop
+    → IsScript tells file name script → now ≡ file → between ≡ before → IsClipStop tells (now script.file) script.file (between, after) stop
     → StopHasCause tells file name (before, after) stop
 at_clip tells file now name before between after script (stops.Unfetched of fault) read same calm h =
     inr (script, read, moved tells file now script.file before between after (stops.Unfetched of fault) same calm h)

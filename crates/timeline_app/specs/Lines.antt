@@ -78,9 +78,11 @@ memory_line = line (codes "no memory")
 unfoldable pub export_memory_line : List ℕ
 export_memory_line = line (codes "export 1 memory")
 
--- Some front of lines was put, piece by piece: nothing; or the first line whole and then a front of the others; or a front of the first line
+-- Some front of lines was put, piece by piece: nothing; or the first line whole and then a front of the others; or a front of the first
+-- line
 -- and nothing after it.
 abbrev pub IsFront : (pieces lines : List (List ℕ)) → Type 0
 IsFront [] lines = Unit {0}
 IsFront (piece ∷ pieces) [] = ⊥
-IsFront (piece ∷ pieces) (line ∷ lines) = ((piece ≡ line) × IsFront pieces lines) ⊎ ((pieces ≡ []) × ((count : ℕ) × (piece ≡ take count line)))
+IsFront (piece ∷ pieces) (line ∷ lines) = ((piece ≡ line) × IsFront pieces lines)
+    ⊎ ((pieces ≡ []) × ((count : ℕ) × (piece ≡ take count line)))

@@ -1,9 +1,9 @@
 -- What a run does: what it works on, what it puts out, and which status has which cause.
-use Rattle.std.specs.Prelude.{◌≡◌, ◌⊎◌, ℕ, ◌<◌, ◌≤◌, ◌==◌, if◌then◌else◌, List, [], ◌∷◌, ◌++◌, length, map, take, drop, slice_index, Option, Some, None, Result, Ok, Err, string_bytes}
+use Rattle.std.specs.Prelude.{◌≡◌, ◌≢◌, ◌⊎◌, ℕ, ◌<◌, ◌≤◌, ◌==◌, if◌then◌else◌, List, [], ◌∷◌, ◌++◌, length, map, take, drop, slice_index, Option, Some, None, Result, Ok, Err, string_bytes}
 use Rattle.std.specs.List.{AllByRecursion}
 use Rattle.tl_ports.specs.declared.fault.FetchFault.{FetchFault}
 use Rattle.tl_ports.specs.declared.fault.FetchFault.TheVariants as fetching
-use Rattle.tl_ports.specs.Outside.{Rose, KeepsOthers, IsToldOr, IsLonger}
+use Rattle.tl_ports.specs.Outside.{Rose}
 use Rattle.mkv_read.specs.declared.clip.ClipIndex.{ClipIndex}
 use Rattle.mkv_read.specs.declared.clip.Place.{Place}
 use Rattle.mkv_read.specs.Clip.{clip_of, IsWithinLimits}
@@ -69,7 +69,8 @@ pub record IsScript (tells : Type 0) (file : List ℕ → Option (List ℕ)) (na
   pub form : script_of text ≡ Ok script
 
 -- A script of the form was fetched, and a file that holds its clip.
-pub record IsJob (tells : Type 0) (file : List ℕ → Option (List ℕ)) (name : List ℕ) (script : Form) (bytes : List ℕ) (clip : ClipIndex) : Type 0 where
+pub record IsJob (tells : Type 0) (file : List ℕ → Option (List ℕ)) (name : List ℕ) (script : Form) (bytes : List ℕ)
+    (clip : ClipIndex) : Type 0 where
   pub read : IsScript tells file name script
   pub fetched : IsFetched tells (file script.file) clip_limit bytes
   pub holds : clip_of bytes ≡ Ok clip
@@ -80,7 +81,8 @@ IsInside script clip = script.len ≤ length clip.packets
 
 -- The exported file: the clip's first packets, byte for byte, at the script's rate.
 abbrev pub export_of : Form → List ℕ → ClipIndex → List ℕ
-export_of script bytes clip = mkv (bytes_at bytes clip.private) clip.width clip.height script.rate (map (bytes_at bytes) (take script.len clip.packets))
+export_of script bytes clip = mkv (bytes_at bytes clip.private) clip.width clip.height script.rate (map (bytes_at bytes)
+    (take script.len clip.packets))
 
 -- Some front of it.
 abbrev pub IsPartial : List ℕ → Form → List ℕ → ClipIndex → Type 0
@@ -89,8 +91,8 @@ IsPartial held script bytes clip = IsPrefix held (export_of script bytes clip)
 -- A fetch that was refused has its cause: the count rose, or the told store lacks the file or holds more of it than the limit.
 abbrev pub IsUnfetched : (tells : Type 0) (kept : Option (List ℕ)) (limit : ℕ) (rose : Type 0) → FetchFault → Type 0
 IsUnfetched tells kept limit rose fetching.Failed = rose
-IsUnfetched tells kept limit rose fetching.Missing = IsToldOr tells (kept ≡ None) rose
-IsUnfetched tells kept limit rose (fetching.TooLarge told) = IsToldOr tells (IsLonger kept limit) rose
+IsUnfetched tells kept limit rose fetching.Missing = (tells × (kept ≡ None)) ⊎ rose
+IsUnfetched tells kept limit rose (fetching.TooLarge told) = (tells × ((text : List ℕ) × (kept ≡ Some text) × (limit < length text))) ⊎ rose
 IsUnfetched tells kept limit rose fetching.NoMemory = ⊥
 
 -- The script's text was read: it is of the form, or this line of it isn't.
@@ -111,25 +113,31 @@ ReadsClip bytes (Err (stops.Unfetched name fault)) = ⊥
 
 -- The file of this name wasn't fetched, for a cause.
 abbrev pub IsUnfetchedStop : (tells : Type 0) (kept : Option (List ℕ)) (name : List ℕ) (limit : ℕ) (faults : Count) → Stop → Type 0
-IsUnfetchedStop tells kept name limit faults (stops.Unfetched of fault) = (string_bytes of ≡ name) × IsUnfetched tells kept limit (Rises faults) fault
+IsUnfetchedStop tells kept name limit faults (stops.Unfetched of fault) = (string_bytes of ≡ name)
+    × IsUnfetched tells kept limit (Rises faults) fault
 IsUnfetchedStop tells kept name limit faults stops.NoMemory = IsCalm faults
 IsUnfetchedStop tells kept name limit faults (stops.Faulty n) = ⊥
 IsUnfetchedStop tells kept name limit faults (stops.FaultyClip fault) = ⊥
 
 -- The clip's file of this name wasn't fetched, or it was and has this fault.
 abbrev pub IsClipStop : (tells : Type 0) (kept : Option (List ℕ)) (name : List ℕ) (faults : Count) → Stop → Type 0
-IsClipStop tells kept name faults (stops.Unfetched of fault) = (string_bytes of ≡ name) × IsUnfetched tells kept clip_limit (Rises faults) fault
-IsClipStop tells kept name faults (stops.FaultyClip fault) = IsCalm faults × ((bytes : List ℕ) × IsFetched tells kept clip_limit bytes × (clip_of bytes ≡ Err fault))
+IsClipStop tells kept name faults (stops.Unfetched of fault) = (string_bytes of ≡ name)
+    × IsUnfetched tells kept clip_limit (Rises faults) fault
+IsClipStop tells kept name faults (stops.FaultyClip fault) = IsCalm faults × ((bytes : List ℕ) × IsFetched tells kept clip_limit bytes
+    × (clip_of bytes ≡ Err fault))
 IsClipStop tells kept name faults stops.NoMemory = IsCalm faults
 IsClipStop tells kept name faults (stops.Faulty n) = ⊥
 
--- A session that doesn't start has its cause: the script or, where it is of the form, its clip wasn't fetched; or the store had no fault, and the
+-- A session that doesn't start has its cause: the script or, where it is of the form, its clip wasn't fetched; or the store had no
+-- fault, and the
 -- script was fetched and isn't of the form, or it is and the clip was fetched and has a fault, or memory ran out.
 abbrev pub StopHasCause : (tells : Type 0) (file : List ℕ → Option (List ℕ)) (name : List ℕ) (faults : Count) → Stop → Type 0
 StopHasCause tells file name faults (stops.Unfetched of fault) =
     ((string_bytes of ≡ name) × IsUnfetched tells (file name) script_limit (Rises faults) fault)
-    ⊎ ((script : Form) × IsScript tells file name script × IsClipStop tells (file script.file) script.file faults (stops.Unfetched of fault))
-StopHasCause tells file name faults (stops.Faulty n) = IsCalm faults × ((text : List ℕ) × IsFetched tells (file name) script_limit text × (script_of text ≡ Err n))
+    ⊎ ((script : Form) × IsScript tells file name script × IsClipStop tells (file script.file) script.file faults
+    (stops.Unfetched of fault))
+StopHasCause tells file name faults (stops.Faulty n) = IsCalm faults × ((text : List ℕ) × IsFetched tells (file name) script_limit text
+    × (script_of text ≡ Err n))
 StopHasCause tells file name faults (stops.FaultyClip fault) =
     (script : Form) × IsScript tells file name script × IsClipStop tells (file script.file) script.file faults (stops.FaultyClip fault)
 StopHasCause tells file name faults stops.NoMemory = IsCalm faults
@@ -172,7 +180,8 @@ HoldsPartial tells file script bytes clip = tells → (held : List ℕ) × (file
 -- How an export ended: the file is whole, and the vault had no fault; or its count rose; or memory ran out, before the file was begun,
 -- without a fault, or later.
 abbrev pub EndsExport : (tells : Type 0) (file : List ℕ → Option (List ℕ)) (faults : Count) → Form → List ℕ → ClipIndex → Ending → Type 0
-EndsExport tells file faults script bytes clip (endings.Done frames) = (frames ≡ script.len) × (tells → file script.export ≡ Some (export_of script bytes clip)) × IsCalm faults
+EndsExport tells file faults script bytes clip (endings.Done frames) = (frames ≡ script.len) × (tells
+    → file script.export ≡ Some (export_of script bytes clip)) × IsCalm faults
 EndsExport tells file faults script bytes clip endings.Sink = Rises faults
 EndsExport tells file faults script bytes clip endings.NoMemory = IsCalm faults ⊎ HoldsPartial tells file script bytes clip
 
@@ -186,7 +195,8 @@ ending_of (Ok frames) (Err putting.NoMemory) = endings.NoMemory
 
 -- The export's file is as before, or it holds some front of the export.
 abbrev pub ChangesExport : (tells : Type 0) (old new : Option (List ℕ)) → Form → List ℕ → ClipIndex → Type 0
-ChangesExport tells old new script bytes clip = tells → (new ≡ old) ⊎ ((held : List ℕ) × (new ≡ Some held) × IsPartial held script bytes clip)
+ChangesExport tells old new script bytes clip = tells → (new ≡ old) ⊎ ((held : List ℕ) × (new ≡ Some held)
+    × IsPartial held script bytes clip)
 
 -- Some front of these lines was put.
 abbrev pub PutsFront : (tells : Type 0) (before after lines : List (List ℕ)) → Type 0
@@ -227,24 +237,32 @@ ending_status (endings.Done frames) = 0
 ending_status endings.Sink = 4
 ending_status endings.NoMemory = 5
 
+-- Files of other names than this one are as before.
+abbrev pub KeepsOtherFiles : (tells : Type 0) (name : List ℕ) (old new : List ℕ → Option (List ℕ)) → Type 0
+KeepsOtherFiles tells name old new = tells → (other : List ℕ) → other ≢ name → new other ≡ old other
+
 -- What an export did that was asked for, by the status. `lines` is what `out` was to get, by how the export ended.
-pub record PlaysExport (vault_tells : Type 0) (vault_faults : Count) (old new : List ℕ → Option (List ℕ)) (out_tells : Type 0) (out_faults : Count) (before after : List (List ℕ))
+pub record PlaysExport (vault_tells : Type 0) (vault_faults : Count) (old new : List ℕ
+    → Option (List ℕ)) (out_tells : Type 0) (out_faults : Count) (before after : List (List ℕ))
     (lines : Ending → List (List ℕ)) (script : Form) (bytes : List ℕ) (clip : ClipIndex) (status : ℕ) : Type 0 where
   -- every line was put, and the file is whole
-  pub done : status ≡ 0 → (out_tells → after ≡ before ++ lines (endings.Done script.len)) × (vault_tells → new script.export ≡ Some (export_of script bytes clip))
+  pub done : status ≡ 0 → (out_tells → after ≡ before ++ lines (endings.Done script.len)) × (vault_tells
+      → new script.export ≡ Some (export_of script bytes clip))
   -- and there was no fault
   pub calm : status ≡ 0 → IsCalm vault_faults × IsCalm out_faults
   -- `out` failed; or the vault did, and `out` says so
   pub failed : status ≡ 4 → Rises out_faults ⊎ (Rises vault_faults × (out_tells → after ≡ before ++ lines endings.Sink))
   -- memory ran out, at a line or in the export, and `out` had no fault
   pub memory : status ≡ 5 → (ending : Ending) × EndsExport vault_tells new vault_faults script bytes clip ending × IsCalm out_faults
-      × (PutsSome out_tells before after (lines ending) ⊎ ((ending ≡ endings.NoMemory) × (out_tells → after ≡ before ++ lines endings.NoMemory)))
+      × (PutsSome out_tells before after (lines ending) ⊎ ((ending ≡ endings.NoMemory) × (out_tells
+      → after ≡ before ++ lines endings.NoMemory)))
   pub no_other : (status ≡ 0) ⊎ ((status ≡ 4) ⊎ (status ≡ 5))
   -- whatever the status, the file is as before or holds some front of the export, and no other changed
   pub file : ChangesExport vault_tells (old script.export) (new script.export) script bytes clip
-  pub files : KeepsOthers vault_tells script.export old new
+  pub files : KeepsOtherFiles vault_tells script.export old new
   -- and `out` got some front of the lines, which say how the export ended
-  pub said : (ending : Ending) × EndsExport vault_tells new vault_faults script bytes clip ending × PutsFront out_tells before after (lines ending)
+  pub said : (ending : Ending) × EndsExport vault_tells new vault_faults script bytes clip ending
+      × PutsFront out_tells before after (lines ending)
 
 -- What an insert past the clip's end did, by the status: it was refused, and nothing was exported.
 pub record PlaysRefusal (out_tells : Type 0) (out_faults : Count) (before after : List (List ℕ)) (status : ℕ) : Type 0 where
@@ -264,12 +282,15 @@ abbrev pub PutsFirst : (tells : Type 0) (before after : List (List ℕ)) (line :
 PutsFirst tells before after line = tells → (rest : List (List ℕ)) × (after ≡ before ++ line ∷ rest)
 
 -- What playing a script did, by the status: its frames lie within the clip and it was exported, or they don't and it was refused.
-abbrev pub Plays : (vault_tells : Type 0) (vault_faults : Count) (old new : List ℕ → Option (List ℕ)) (out_tells : Type 0) (out_faults : Count) (before after : List (List ℕ))
+abbrev pub Plays : (vault_tells : Type 0) (vault_faults : Count) (old new : List ℕ
+    → Option (List ℕ)) (out_tells : Type 0) (out_faults : Count) (before after : List (List ℕ))
     (script : Form) (bytes : List ℕ) (clip : ClipIndex) (status : ℕ) → Type 0
 Plays vault_tells vault_faults old new out_tells out_faults before after script bytes clip status =
-    (IsInside script clip × PlaysExport vault_tells vault_faults old new out_tells out_faults before after (export_lines script.len) script bytes clip status
+    (IsInside script clip × PlaysExport vault_tells vault_faults old new out_tells out_faults before after
+    (export_lines script.len) script bytes clip status
     × (IsUntouched vault_tells vault_faults old new ⊎ PutsFirst out_tells before after (ok_line script.len)))
-    ⊎ ((length clip.packets < script.len) × PlaysRefusal out_tells out_faults before after status × IsUntouched vault_tells vault_faults old new)
+    ⊎ ((length clip.packets < script.len) × PlaysRefusal out_tells out_faults before after status
+    × IsUntouched vault_tells vault_faults old new)
 
 -- A line was put, whole, or some front of it where the count rose.
 abbrev pub Puts : (tells rose : Type 0) (before after : List (List ℕ)) (line : List ℕ) → Type 0
@@ -277,7 +298,8 @@ Puts tells rose before after line = (tells → after ≡ before ++ line ∷ []) 
 
 -- A session ended before its start with this status, once this line was put; or memory ran out before that, and `out` had no fault.
 pub record StopsWith (tells : Type 0) (faults : Count) (before after : List (List ℕ)) (line : List ℕ) (status result : ℕ) : Type 0 where
-  pub ended : ((result ≡ 5) × IsCalm faults × PutsSome tells before after (line ∷ [])) ⊎ ((result ≡ status) × Puts tells (Rises faults) before after line)
+  pub ended : ((result ≡ 5) × IsCalm faults × PutsSome tells before after (line ∷ []))
+      ⊎ ((result ≡ status) × Puts tells (Rises faults) before after line)
   pub said : PutsFront tells before after (line ∷ [])
 
 -- The status after the last line, which was put so.

@@ -5,7 +5,8 @@ use Rattle.std.specs.Char.{is_ascii_digit}
 use Rattle.std.specs.Str.{bytes_eq, is_utf8}
 use Rattle.bstr.specs.Text.{lines_of, without_terminator}
 
--- The lines of a text. A line ends with a line feed; a carriage return before it is dropped; a last piece without one is a line unless it is empty.
+-- The lines of a text. A line ends with a line feed; a carriage return before it is dropped; a last piece without one is a line unless
+-- it is empty.
 unfoldable pub lines : List ℕ → List (List ℕ)
 lines text = map without_terminator (lines_of text)
 
@@ -23,7 +24,8 @@ value_of digits = fold (λ value digit. 10 * value + (digit - 48)) 0 digits
 -- A number is 1 to 7 digits, and lies within bounds.
 unfoldable pub number : (low high : ℕ) → List ℕ → Option ℕ
 number low high word =
-    if ((nat_lt 0 (length word) && nat_le (length word) 7) && list_all is_ascii_digit word) && (nat_le low (value_of word) && nat_le (value_of word) high)
+    if ((nat_lt 0 (length word) && nat_le (length word) 7) && list_all is_ascii_digit word) && (nat_le low (value_of word) && nat_le
+    (value_of word) high)
     then Some (value_of word)
     else None
 
@@ -39,18 +41,21 @@ text word = if is_utf8 word then Some word else None
 -- `clip NAME FILE`; no clip is named `black`
 unfoldable pub clip_line : List (List ℕ) → Option (List ℕ × List ℕ)
 clip_line (keyword ∷ name ∷ file ∷ []) =
-    if (bytes_eq keyword (codes "clip") && not (bytes_eq name (codes "black"))) && is_some (text name) then option_map (λ path. (name, path)) (text file) else None
+    if (bytes_eq keyword (codes "clip") && not (bytes_eq name (codes "black"))) && is_some (text name) then option_map (λ path.
+    (name, path)) (text file) else None
 clip_line other = None
 
 -- `format as NAME`, of the clip's name
 unfoldable pub format_line : (name : List ℕ) → List (List ℕ) → Option Unit
-format_line name (keyword ∷ like ∷ of ∷ []) = if (bytes_eq keyword (codes "format") && bytes_eq like (codes "as")) && bytes_eq of name then Some tt else None
+format_line name (keyword ∷ like ∷ of ∷ []) = if (bytes_eq keyword (codes "format") && bytes_eq like
+    (codes "as")) && bytes_eq of name then Some tt else None
 format_line name other = None
 
 -- `insert 0 NAME 0 LEN`, of the clip's name, 1 to 1,000,000 frames
 unfoldable pub insert_line : (name : List ℕ) → List (List ℕ) → Option ℕ
 insert_line name (keyword ∷ at ∷ of ∷ first ∷ len ∷ []) =
-    if (bytes_eq keyword (codes "insert") && bytes_eq of name) && (is_some (number 0 0 at) && is_some (number 0 0 first)) then number 1 1000000 len else None
+    if (bytes_eq keyword (codes "insert") && bytes_eq of name) && (is_some (number 0 0 at) && is_some
+    (number 0 0 first)) then number 1 1000000 len else None
 insert_line name other = None
 
 -- `export FILE`

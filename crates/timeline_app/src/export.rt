@@ -1,12 +1,12 @@
 //! Writing the exported file.
 
-ghost use Rattle.std.specs.Prelude.{◌≡◌, ◌≤◌, ◌<◌, ◌+◌, ◌++◌, ℕ, List, [], None, Some, IsSome, OnOk, Ok, Err, string_bytes, length, map, take};
+ghost use Rattle.std.specs.Prelude.{IsTrue, ◌≡◌, ◌≤◌, ◌<◌, ◌+◌, ◌++◌, ℕ, List, [], None, Some, IsSome, OnOk, Ok, Err, string_bytes, length, map, take};
 ghost use Rattle.std.specs.List.{AllByRecursion};
-ghost use Rattle.tl_ports.specs.Outside.{KeepsOthers, KeepsBegun};
+ghost use Rattle.tl_ports.specs.Outside.{KeepsBegun};
 ghost use Rattle.mkv_read.specs.Plain.{LiesBefore};
 ghost use Rattle.mkv_write.specs.Writing.{WriteHasCause, put_of};
 ghost use Rattle.timeline_app.specs.Reading.{view};
-ghost use Rattle.timeline_app.specs.Run.{IsInside, IsSound, bytes_at, with_packets, AddsPackets, WritesExport, EndsExport, ChangesExport, HoldsPartial, ending_of, started_over};
+ghost use Rattle.timeline_app.specs.Run.{KeepsOtherFiles, IsInside, IsSound, bytes_at, with_packets, AddsPackets, WritesExport, EndsExport, ChangesExport, HoldsPartial, ending_of, started_over};
 
 use crate::job::Job;
 use mkv_read::{ClipIndex, Place};
@@ -42,15 +42,15 @@ fn write_frames<V: Vault>(
     bytes: &[u8],
     places: &[Place],
 ) -> Result<(), WriteFault>
-    requires begun { IsSome (V.begun vault.old) }
-    requires held { V.tells → V.held vault.old ≡ put_of writer.old }
+    requires begun { IsSome (V.seen vault.old).begun }
+    requires held { IsTrue V.tells → (V.seen vault.old).held ≡ put_of writer.old }
     requires frames { length writer.old.packets + length places.now ≤ 1000000 }
     requires size { length bytes.now ≤ 2147483648 }
     requires places { AllByRecursion (LiesBefore (length bytes.now)) places.now }
     ensures added { OnOk result (writer.new ≡ with_packets writer.old (map (bytes_at bytes.now) places.now)) }
-    ensures put { AddsPackets V.tells (V.held vault.new) writer.old (map (bytes_at bytes.now) places.now) result }
-    ensures kept { KeepsBegun V.tells V.begun V.file V.faults vault.old vault.new }
-    ensures cause { WriteHasCause (V.faults vault.old) (V.faults vault.new) result }
+    ensures put { AddsPackets (IsTrue V.tells) (V.seen vault.new).held writer.old (map (bytes_at bytes.now) places.now) result }
+    ensures kept { KeepsBegun V.tells (V.seen vault.old) (V.seen vault.new) }
+    ensures cause { WriteHasCause (V.seen vault.old).faults (V.seen vault.new).faults result }
 {
     put_is_prefix();
     for place in places {
@@ -64,13 +64,13 @@ fn write_frames<V: Vault>(
 
 /// Writes the first packets of the clip into the begun file, which is empty.
 fn write_packets<V: Vault>(alloc: Global, job: &Job, vault: &mut V) -> Result<u32, WriteFault>
-    requires begun { IsSome (V.begun vault.old) }
-    requires empty { V.tells → V.held vault.old ≡ [] }
+    requires begun { IsSome (V.seen vault.old).begun }
+    requires empty { IsTrue V.tells → (V.seen vault.old).held ≡ [] }
     requires sound { IsSound job.now.bytes.items job.now.index }
     requires inside { IsInside (view job.now.script) job.now.index }
-    ensures written { WritesExport V.tells (V.held vault.new) (view job.now.script) job.now.bytes.items job.now.index result }
-    ensures kept { KeepsBegun V.tells V.begun V.file V.faults vault.old vault.new }
-    ensures cause { WriteHasCause (V.faults vault.old) (V.faults vault.new) result }
+    ensures written { WritesExport (IsTrue V.tells) (V.seen vault.new).held (view job.now.script) job.now.bytes.items job.now.index result }
+    ensures kept { KeepsBegun V.tells (V.seen vault.old) (V.seen vault.new) }
+    ensures cause { WriteHasCause (V.seen vault.old).faults (V.seen vault.new).faults result }
 {
     put_is_prefix();
     let clip = &job.index;
@@ -98,14 +98,14 @@ fn first_places(clip: &ClipIndex, len: usize) -> &[Place]
 
 /// Writes the packets and the end of the file.
 fn write_rest<V: Vault>(vault: &mut V, mut writer: MkvWriter, job: &Job) -> Result<u32, WriteFault>
-    requires begun { IsSome (V.begun vault.old) }
-    requires held { V.tells → V.held vault.old ≡ put_of writer }
+    requires begun { IsSome (V.seen vault.old).begun }
+    requires held { IsTrue V.tells → (V.seen vault.old).held ≡ put_of writer }
     requires started { writer ≡ started_over (view job.now.script) job.now.bytes.items job.now.index }
     requires sound { IsSound job.now.bytes.items job.now.index }
     requires inside { IsInside (view job.now.script) job.now.index }
-    ensures written { WritesExport V.tells (V.held vault.new) (view job.now.script) job.now.bytes.items job.now.index result }
-    ensures kept { KeepsBegun V.tells V.begun V.file V.faults vault.old vault.new }
-    ensures cause { WriteHasCause (V.faults vault.old) (V.faults vault.new) result }
+    ensures written { WritesExport (IsTrue V.tells) (V.seen vault.new).held (view job.now.script) job.now.bytes.items job.now.index result }
+    ensures kept { KeepsBegun V.tells (V.seen vault.old) (V.seen vault.new) }
+    ensures cause { WriteHasCause (V.seen vault.old).faults (V.seen vault.new).faults result }
 {
     let places = first_places(&job.index, job.script.len as usize);
     match write_frames(vault, &mut writer, &job.bytes, places) {
@@ -116,14 +116,16 @@ fn write_rest<V: Vault>(vault: &mut V, mut writer: MkvWriter, job: &Job) -> Resu
 
 /// Exports the first packets of the clip to the script's file.
 pub fn export<V: Vault>(alloc: Global, job: &Job, vault: &mut V) -> Ending
-    requires idle { V.begun vault.old ≡ None }
+    requires idle { (V.seen vault.old).begun ≡ None }
     requires sound { IsSound job.now.bytes.items job.now.index }
     requires inside { IsInside (view job.now.script) job.now.index }
-    ensures ended { EndsExport V.tells (V.file vault.new) (V.faults vault.old, V.faults vault.new) (view job.now.script) job.now.bytes.items job.now.index result }
-    ensures file { ChangesExport V.tells (V.file vault.old (string_bytes job.now.script.export)) (V.file vault.new (string_bytes job.now.script.export)) (view job.now.script) job.now.bytes.items job.now.index }
-    ensures others { KeepsOthers V.tells (string_bytes job.now.script.export) (V.file vault.old) (V.file vault.new) }
-    ensures idle { V.begun vault.new ≡ None }
-    ensures later { V.faults vault.old ≤ V.faults vault.new }
+    ensures ended { EndsExport (IsTrue V.tells) (V.seen vault.new).file ((V.seen vault.old).faults, (V.seen vault.new).faults)
+        (view job.now.script) job.now.bytes.items job.now.index result }
+    ensures file { ChangesExport (IsTrue V.tells) ((V.seen vault.old).file (string_bytes job.now.script.export))
+        ((V.seen vault.new).file (string_bytes job.now.script.export)) (view job.now.script) job.now.bytes.items job.now.index }
+    ensures others { KeepsOtherFiles (IsTrue V.tells) (string_bytes job.now.script.export) (V.seen vault.old).file (V.seen vault.new).file }
+    ensures idle { (V.seen vault.new).begun ≡ None }
+    ensures later { (V.seen vault.old).faults ≤ (V.seen vault.new).faults }
 {
     match vault.begin(job.script.export.as_str()) {
         Ok(()) => export_begun(alloc, job, vault),
@@ -134,15 +136,16 @@ pub fn export<V: Vault>(alloc: Global, job: &Job, vault: &mut V) -> Ending
 
 /// Writes the begun file, and ends it.
 fn export_begun<V: Vault>(alloc: Global, job: &Job, vault: &mut V) -> Ending
-    requires begun { V.begun vault.old ≡ Some (string_bytes job.now.script.export) }
-    requires empty { V.tells → V.held vault.old ≡ [] }
+    requires begun { (V.seen vault.old).begun ≡ Some (string_bytes job.now.script.export) }
+    requires empty { IsTrue V.tells → (V.seen vault.old).held ≡ [] }
     requires sound { IsSound job.now.bytes.items job.now.index }
     requires inside { IsInside (view job.now.script) job.now.index }
-    ensures ended { EndsExport V.tells (V.file vault.new) (V.faults vault.old, V.faults vault.new) (view job.now.script) job.now.bytes.items job.now.index result }
-    ensures file { HoldsPartial V.tells (V.file vault.new) (view job.now.script) job.now.bytes.items job.now.index }
-    ensures others { KeepsOthers V.tells (string_bytes job.now.script.export) (V.file vault.old) (V.file vault.new) }
-    ensures idle { V.begun vault.new ≡ None }
-    ensures later { V.faults vault.old ≤ V.faults vault.new }
+    ensures ended { EndsExport (IsTrue V.tells) (V.seen vault.new).file ((V.seen vault.old).faults, (V.seen vault.new).faults)
+        (view job.now.script) job.now.bytes.items job.now.index result }
+    ensures file { HoldsPartial (IsTrue V.tells) (V.seen vault.new).file (view job.now.script) job.now.bytes.items job.now.index }
+    ensures others { KeepsOtherFiles (IsTrue V.tells) (string_bytes job.now.script.export) (V.seen vault.old).file (V.seen vault.new).file }
+    ensures idle { (V.seen vault.new).begun ≡ None }
+    ensures later { (V.seen vault.old).faults ≤ (V.seen vault.new).faults }
 {
     let written = write_packets(alloc, job, vault);
     let ended = vault.end();

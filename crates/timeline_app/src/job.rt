@@ -1,6 +1,6 @@
 //! Fetching the script and its clip.
 
-ghost use Rattle.std.specs.Prelude.{◌≡◌, ◌≤◌, ℕ, List, IfOk, IfErr, OnOk, Ok, string_bytes, length};
+ghost use Rattle.std.specs.Prelude.{IsTrue, ◌≡◌, ◌≤◌, ℕ, List, IfOk, IfErr, OnOk, Ok, string_bytes, length};
 ghost use Rattle.timeline_app.specs.Reading.{view};
 ghost use Rattle.timeline_app.specs.Run.{clip_limit, IsFetched, IsJob, IsScript, IsUnfetchedStop, IsClipStop, StopHasCause, ReadsScript, ReadsClip, IsSound};
 ghost use Rattle.mkv_read.specs.Clip.{clip_of};
@@ -28,11 +28,12 @@ pub struct Job {
 
 /// Fetches a whole file of at most `limit` bytes.
 fn fetch<T: Store>(alloc: Global, store: &mut T, name: &str, limit: u64) -> Result<Vec<u8>, Stop>
-    ensures fetched { IfOk result (λ bytes. IsFetched T.tells (T.file store.old name.now) limit bytes.items) }
-    ensures calm { OnOk result (T.faults store.new ≡ T.faults store.old) }
-    ensures stop { IfErr result (IsUnfetchedStop T.tells (T.file store.old name.now) name.now limit (T.faults store.old, T.faults store.new)) }
-    ensures files { (other : List ℕ) → T.file store.new other ≡ T.file store.old other }
-    ensures later { T.faults store.old ≤ T.faults store.new }
+    ensures fetched { IfOk result (λ bytes. IsFetched (IsTrue T.tells) ((T.seen store.old).file name.now) limit bytes.items) }
+    ensures calm { OnOk result ((T.seen store.new).faults ≡ (T.seen store.old).faults) }
+    ensures stop { IfErr result (IsUnfetchedStop (IsTrue T.tells) ((T.seen store.old).file name.now) name.now limit
+        ((T.seen store.old).faults, (T.seen store.new).faults)) }
+    ensures files { (T.seen store.new).file ≡ (T.seen store.old).file }
+    ensures later { (T.seen store.old).faults ≤ (T.seen store.new).faults }
 {
     // The name for the line that a refusal needs: once the fetch has failed, nothing may be wanting.
     let name_copy = String::from_str(alloc, name)?;
@@ -73,11 +74,14 @@ fn index_of(alloc: Global, bytes: &[u8]) -> Result<ClipIndex, Stop>
 
 /// Fetches and reads the script of this name.
 fn fetch_script<T: Store>(alloc: Global, store: &mut T, name: &str) -> Result<Script, Stop>
-    ensures script { IfOk result (λ script. IsScript T.tells (T.file store.old) name.now (view script)) }
-    ensures calm { OnOk result (T.faults store.new ≡ T.faults store.old) }
-    ensures stop { IfErr result (StopHasCause T.tells (T.file store.old) name.now (T.faults store.old, T.faults store.new)) }
-    ensures files { (other : List ℕ) → T.file store.new other ≡ T.file store.old other }
-    ensures later { T.faults store.old ≤ T.faults store.new }
+    ensures script { IfOk result (λ script. IsScript (IsTrue T.tells) (T.seen store.old).file name.now (view script)) }
+    ensures calm { OnOk result ((T.seen store.new).faults ≡ (T.seen store.old).faults) }
+    ensures stop { IfErr result (StopHasCause (IsTrue T.tells) (T.seen store.old).file name.now (
+      (T.seen store.old).faults,
+      (T.seen store.new).faults,
+    )) }
+    ensures files { (T.seen store.new).file ≡ (T.seen store.old).file }
+    ensures later { (T.seen store.old).faults ≤ (T.seen store.new).faults }
 {
     match fetch(alloc, store, name, SCRIPT_LIMIT) {
         Ok(text) => script_in(alloc, &text),
@@ -91,13 +95,16 @@ fn fetch_clip<T: Store>(
     store: &mut T,
     file: &str,
 ) -> Result<(Vec<u8>, ClipIndex), Stop>
-    ensures fetched { IfOk result (λ clip. IsFetched T.tells (T.file store.old file.now) clip_limit clip.0.items) }
-    ensures calm { OnOk result (T.faults store.new ≡ T.faults store.old) }
+    ensures fetched { IfOk result (λ clip. IsFetched (IsTrue T.tells) ((T.seen store.old).file file.now) clip_limit clip.0.items) }
+    ensures calm { OnOk result ((T.seen store.new).faults ≡ (T.seen store.old).faults) }
     ensures holds { IfOk result (λ clip. clip_of clip.0.items ≡ Ok clip.1) }
     ensures within { IfOk result (λ clip. IsSound clip.0.items clip.1) }
-    ensures stop { IfErr result (IsClipStop T.tells (T.file store.old file.now) file.now (T.faults store.old, T.faults store.new)) }
-    ensures files { (other : List ℕ) → T.file store.new other ≡ T.file store.old other }
-    ensures later { T.faults store.old ≤ T.faults store.new }
+    ensures stop { IfErr result (IsClipStop (IsTrue T.tells) ((T.seen store.old).file file.now) file.now (
+      (T.seen store.old).faults,
+      (T.seen store.new).faults,
+    )) }
+    ensures files { (T.seen store.new).file ≡ (T.seen store.old).file }
+    ensures later { (T.seen store.old).faults ≤ (T.seen store.new).faults }
 {
     match fetch(alloc, store, file, CLIP_LIMIT) {
         Ok(bytes) => match index_of(alloc, &bytes) {
@@ -110,12 +117,15 @@ fn fetch_clip<T: Store>(
 
 /// Fetches the script of this name and then its clip, and reads both.
 pub fn fetch_job<T: Store>(alloc: Global, store: &mut T, name: &str) -> Result<Job, Stop>
-    ensures job { IfOk result (λ job. IsJob T.tells (T.file store.old) name.now (view job.script) job.bytes.items job.index) }
-    ensures calm { OnOk result (T.faults store.new ≡ T.faults store.old) }
-    ensures stop { IfErr result (StopHasCause T.tells (T.file store.old) name.now (T.faults store.old, T.faults store.new)) }
+    ensures job { IfOk result (λ job. IsJob (IsTrue T.tells) (T.seen store.old).file name.now (view job.script) job.bytes.items job.index) }
+    ensures calm { OnOk result ((T.seen store.new).faults ≡ (T.seen store.old).faults) }
+    ensures stop { IfErr result (StopHasCause (IsTrue T.tells) (T.seen store.old).file name.now (
+      (T.seen store.old).faults,
+      (T.seen store.new).faults,
+    )) }
     ensures within { IfOk result (λ job. IsSound job.bytes.items job.index) }
-    ensures files { (other : List ℕ) → T.file store.new other ≡ T.file store.old other }
-    ensures later { T.faults store.old ≤ T.faults store.new }
+    ensures files { (T.seen store.new).file ≡ (T.seen store.old).file }
+    ensures later { (T.seen store.old).faults ≤ (T.seen store.new).faults }
 {
     match fetch_script(alloc, store, name) {
         Ok(script) => match fetch_clip(alloc, store, script.file.as_str()) {

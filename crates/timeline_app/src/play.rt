@@ -1,6 +1,6 @@
 //! Playing a script of the form: the insert, and the export or its refusal.
 
-ghost use Rattle.std.specs.Prelude.{◌≡◌, ◌⊎◌, ◌≤◌, None};
+ghost use Rattle.std.specs.Prelude.{IsTrue, ◌≡◌, ◌⊎◌, ◌≤◌, None};
 ghost use Rattle.timeline_app.specs.Lines.{ok_line};
 ghost use Rattle.timeline_app.specs.Reading.{view};
 ghost use Rattle.timeline_app.specs.Run.{IsUntouched, PutsFirst, IsInside, IsSound, Plays, PlaysExport, PlaysRefusal, asked_lines, export_lines, fault_status, ending_status};
@@ -35,12 +35,14 @@ fn ending_status(ending: Ending) -> u8
 
 /// Asks for the export and carries it out. It is carried out also where the line of the ask isn't put.
 fn play_asked<V: Vault, O: Sink>(alloc: Global, job: &Job, vault: &mut V, out: &mut O) -> u8
-    requires idle { V.begun vault.old ≡ None }
+    requires idle { (V.seen vault.old).begun ≡ None }
     requires sound { IsSound job.now.bytes.items job.now.index }
     requires inside { IsInside (view job.now.script) job.now.index }
-    ensures plays { PlaysExport V.tells (V.faults vault.old, V.faults vault.new) (V.file vault.old) (V.file vault.new) O.tells (O.faults out.old, O.faults out.new) (O.pieces out.old) (O.pieces out.new) asked_lines (view job.now.script) job.now.bytes.items job.now.index result }
-    ensures idle { V.begun vault.new ≡ None }
-    ensures later { O.faults out.old ≤ O.faults out.new }
+    ensures plays { PlaysExport (IsTrue V.tells) ((V.seen vault.old).faults, (V.seen vault.new).faults) (V.seen vault.old).file
+        (V.seen vault.new).file (IsTrue O.tells) ((O.seen out.old).faults, (O.seen out.new).faults) (O.seen out.old).pieces
+        (O.seen out.new).pieces asked_lines (view job.now.script) job.now.bytes.items job.now.index result }
+    ensures idle { (V.seen vault.new).begun ≡ None }
+    ensures later { (O.seen out.old).faults ≤ (O.seen out.new).faults }
 {
     let asked = say(out, asked_line());
     let ending = export(alloc, job, vault);
@@ -55,13 +57,16 @@ fn play_asked<V: Vault, O: Sink>(alloc: Global, job: &Job, vault: &mut V, out: &
 
 /// Inserts the clip's first frames, and exports them.
 fn play_export<V: Vault, O: Sink>(alloc: Global, job: &Job, vault: &mut V, out: &mut O) -> u8
-    requires idle { V.begun vault.old ≡ None }
+    requires idle { (V.seen vault.old).begun ≡ None }
     requires sound { IsSound job.now.bytes.items job.now.index }
     requires inside { IsInside (view job.now.script) job.now.index }
-    ensures plays { PlaysExport V.tells (V.faults vault.old, V.faults vault.new) (V.file vault.old) (V.file vault.new) O.tells (O.faults out.old, O.faults out.new) (O.pieces out.old) (O.pieces out.new) (export_lines job.now.script.len) (view job.now.script) job.now.bytes.items job.now.index result }
-    ensures asked { IsUntouched V.tells (V.faults vault.old, V.faults vault.new) (V.file vault.old) (V.file vault.new)
-        ⊎ PutsFirst O.tells (O.pieces out.old) (O.pieces out.new) (ok_line job.now.script.len) }
-    ensures idle { V.begun vault.new ≡ None }
+    ensures plays { PlaysExport (IsTrue V.tells) ((V.seen vault.old).faults, (V.seen vault.new).faults) (V.seen vault.old).file
+        (V.seen vault.new).file (IsTrue O.tells) ((O.seen out.old).faults, (O.seen out.new).faults) (O.seen out.old).pieces
+        (O.seen out.new).pieces (export_lines job.now.script.len) (view job.now.script) job.now.bytes.items job.now.index result }
+    ensures asked { IsUntouched (IsTrue V.tells) ((V.seen vault.old).faults, (V.seen vault.new).faults) (V.seen vault.old).file
+        (V.seen vault.new).file
+        ⊎ PutsFirst (IsTrue O.tells) (O.seen out.old).pieces (O.seen out.new).pieces (ok_line job.now.script.len) }
+    ensures idle { (V.seen vault.new).begun ≡ None }
 {
     match say_made(out, ok_line(alloc, job.script.len)) {
         Err(fault) => fault_status(fault),
@@ -71,7 +76,8 @@ fn play_export<V: Vault, O: Sink>(alloc: Global, job: &Job, vault: &mut V, out: 
 
 /// Refuses an insert past the clip's end, and the export of the empty timeline.
 fn play_refusal<O: Sink>(out: &mut O) -> u8
-    ensures { PlaysRefusal O.tells (O.faults out.old, O.faults out.new) (O.pieces out.old) (O.pieces out.new) result }
+    ensures { PlaysRefusal (IsTrue O.tells) ((O.seen out.old).faults, (O.seen out.new).faults) (O.seen out.old).pieces
+        (O.seen out.new).pieces result }
 {
     match say_refused(out) {
         Ok(()) => 0,
@@ -81,10 +87,12 @@ fn play_refusal<O: Sink>(out: &mut O) -> u8
 
 /// Plays the script, and answers the status.
 pub fn play<V: Vault, O: Sink>(alloc: Global, job: &Job, vault: &mut V, out: &mut O) -> u8
-    requires idle { V.begun vault.old ≡ None }
+    requires idle { (V.seen vault.old).begun ≡ None }
     requires sound { IsSound job.now.bytes.items job.now.index }
-    ensures plays { Plays V.tells (V.faults vault.old, V.faults vault.new) (V.file vault.old) (V.file vault.new) O.tells (O.faults out.old, O.faults out.new) (O.pieces out.old) (O.pieces out.new) (view job.now.script) job.now.bytes.items job.now.index result }
-    ensures idle { V.begun vault.new ≡ None }
+    ensures plays { Plays (IsTrue V.tells) ((V.seen vault.old).faults, (V.seen vault.new).faults) (V.seen vault.old).file
+        (V.seen vault.new).file (IsTrue O.tells) ((O.seen out.old).faults, (O.seen out.new).faults) (O.seen out.old).pieces
+        (O.seen out.new).pieces (view job.now.script) job.now.bytes.items job.now.index result }
+    ensures idle { (V.seen vault.new).begun ≡ None }
 {
     if job.script.len as usize <= job.index.packets.as_slice().len() {
         play_export(alloc, job, vault, out)

@@ -1,12 +1,9 @@
 //! The top call.
 
-ghost use Rattle.std.specs.Prelude.{◌≡◌, ◌⊎◌, ◌==◌, ℕ, List, [], ◌∷◌, Some, None, map, option_map, slice_index, string_bytes};
-ghost use Rattle.tl_ports.specs.Outside.{Rose};
+ghost use Rattle.std.specs.Prelude.{IsTrue, ◌≡◌, ◌⊎◌, ◌==◌, ℕ, List, [], ◌∷◌, Some, None, map, option_map, slice_index, string_bytes};
 ghost use Rattle.timeline_app.specs.Lines.{usage_line};
 ghost use Rattle.timeline_app.specs.Run.{script_name, Says, Puts, StopsWith, stop_line, stop_status, status_after};
-ghost use Rattle.timeline_app.specs.Top.{Runs, Works, Played, Stopped, Unsaid, Unsunk, ChangesOnlyExport, ExportsWhenAsked, SaysTranscript, RunsOut, IsFaulty};
-ghost use Rattle.mkv_read.specs.declared.clip.ClipIndex.{ClipIndex};
-ghost use Rattle.timeline_app.specs.Script.{Form};
+ghost use Rattle.timeline_app.specs.Top.{RunsBy, Runs};
 
 use crate::job::fetch_job;
 use crate::lines::{clip_fault_line, fault_line, memory_line, store_line, usage_line};
@@ -43,7 +40,10 @@ fn is_option(word: &str) -> bool
 
 /// Says why the session doesn't start.
 fn say_stop<O: Sink>(alloc: Global, out: &mut O, stop: &Stop) -> Result<(), PutFault>
-    ensures { Says O.tells (O.pieces out.old) (O.pieces out.new) (stop_line stop.now ∷ []) (O.faults out.old, O.faults out.new) result }
+    ensures { Says (IsTrue O.tells) (O.seen out.old).pieces (O.seen out.new).pieces (stop_line stop.now ∷ []) (
+      (O.seen out.old).faults,
+      (O.seen out.new).faults,
+    ) result }
 {
     match stop {
         Stop::Unfetched { name, fault } => say_made(out, store_line(alloc, name.as_str(), *fault)),
@@ -78,7 +78,8 @@ fn status_after(said: Result<(), PutFault>, status: u8) -> u8
 
 /// Says how the program is used.
 fn misuse<O: Sink>(out: &mut O) -> u8
-    ensures { StopsWith O.tells (O.faults out.old, O.faults out.new) (O.pieces out.old) (O.pieces out.new) usage_line 2 result }
+    ensures { StopsWith (IsTrue O.tells) ((O.seen out.old).faults, (O.seen out.new).faults) (O.seen out.old).pieces
+        (O.seen out.new).pieces usage_line 2 result }
 {
     let said = say(out, usage_line());
     status_after(said, 2)
@@ -86,7 +87,8 @@ fn misuse<O: Sink>(out: &mut O) -> u8
 
 /// Ends a session before its start.
 fn end_early<O: Sink>(alloc: Global, out: &mut O, stop: &Stop) -> u8
-    ensures { StopsWith O.tells (O.faults out.old, O.faults out.new) (O.pieces out.old) (O.pieces out.new) (stop_line stop.now) (stop_status stop.now) result }
+    ensures { StopsWith (IsTrue O.tells) ((O.seen out.old).faults, (O.seen out.new).faults) (O.seen out.old).pieces
+        (O.seen out.new).pieces (stop_line stop.now) (stop_status stop.now) result }
 {
     let said = say_stop(alloc, out, stop);
     status_after(said, stop_status(stop))
@@ -100,10 +102,13 @@ fn run_script<T: Store, V: Vault, O: Sink>(
     vault: &mut V,
     out: &mut O,
 ) -> u8
-    requires idle { V.begun vault.old ≡ None }
-    ensures runs { Runs (Some name.now) T.tells (T.faults store.old, T.faults store.new) (T.file store.old) V.tells (V.faults vault.old, V.faults vault.new) (V.file vault.old) (V.file vault.new) O.tells (O.faults out.old, O.faults out.new) (O.pieces out.old) (O.pieces out.new) result }
-    ensures idle { V.begun vault.new ≡ None }
-    ensures store { (other : List ℕ) → T.file store.new other ≡ T.file store.old other }
+    requires idle { (V.seen vault.old).begun ≡ None }
+    ensures runs { RunsBy (Some name.now) (IsTrue T.tells) ((T.seen store.old).faults, (T.seen store.new).faults)
+        (T.seen store.old).file (IsTrue V.tells) ((V.seen vault.old).faults, (V.seen vault.new).faults) (V.seen vault.old).file
+        (V.seen vault.new).file (IsTrue O.tells) ((O.seen out.old).faults, (O.seen out.new).faults) (O.seen out.old).pieces
+        (O.seen out.new).pieces result }
+    ensures idle { (V.seen vault.new).begun ≡ None }
+    ensures store { (T.seen store.new).file ≡ (T.seen store.old).file }
 {
     match fetch_job(alloc, store, name) {
         Ok(job) => play(alloc, &job, vault, out),
@@ -119,10 +124,15 @@ fn run<T: Store, V: Vault, O: Sink>(
     vault: &mut V,
     out: &mut O,
 ) -> u8
-    requires idle { V.begun vault.old ≡ None }
-    ensures runs { Runs (script_name (map string_bytes words.now)) T.tells (T.faults store.old, T.faults store.new) (T.file store.old) V.tells (V.faults vault.old, V.faults vault.new) (V.file vault.old) (V.file vault.new) O.tells (O.faults out.old, O.faults out.new) (O.pieces out.old) (O.pieces out.new) result }
-    ensures idle { V.begun vault.new ≡ None }
-    ensures store { (other : List ℕ) → T.file store.new other ≡ T.file store.old other }
+    requires idle { (V.seen vault.old).begun ≡ None }
+    ensures runs { RunsBy (script_name (map string_bytes words.now)) (IsTrue T.tells) (
+      (T.seen store.old).faults,
+      (T.seen store.new).faults,
+    ) (T.seen store.old).file (IsTrue V.tells) ((V.seen vault.old).faults, (V.seen vault.new).faults)
+        (V.seen vault.old).file (V.seen vault.new).file (IsTrue O.tells) ((O.seen out.old).faults, (O.seen out.new).faults)
+        (O.seen out.old).pieces (O.seen out.new).pieces result }
+    ensures idle { (V.seen vault.new).begun ≡ None }
+    ensures store { (T.seen store.new).file ≡ (T.seen store.old).file }
 {
     match script_name(words) {
         None => misuse(out),
@@ -152,42 +162,12 @@ pub fn run_alone<T: Store, V: Vault, S: Sink, O: Sink>(
     screen: &mut S,
     out: &mut O,
 ) -> Outcome
-    requires idle { V.begun vault.old ≡ None }
-
-    // 0: the script was played to its end, and there was no fault.
-    ensures played { result.status ≡ 0 → (script : Form) × (bytes : List ℕ) × (clip : ClipIndex) × Works (script_name (map string_bytes words.now)) T.tells (T.file store.old) script bytes clip
-        × Played V.tells (V.file vault.old) (V.file vault.new) O.tells (O.pieces out.old) (O.pieces out.new) script bytes clip }
-    ensures calm { result.status ≡ 0 → (T.faults store.new ≡ T.faults store.old) × (V.faults vault.new ≡ V.faults vault.old) × (O.faults out.new ≡ O.faults out.old) }
-
-    // 2: exactly where the words aren't of the form, unless memory ran out.
-    ensures misused { result.status ≡ 2 → (script_name (map string_bytes words.now) ≡ None) × (T.faults store.new ≡ T.faults store.old) × Puts O.tells (Rose (O.faults out.old) (O.faults out.new)) (O.pieces out.old) (O.pieces out.new) usage_line }
-    ensures usage { script_name (map string_bytes words.now) ≡ None → (result.status ≡ 2) ⊎ (result.status ≡ 5) }
-
-    // 3: exactly where the script was fetched and isn't of the form, or it is and the clip was fetched and has a fault,
-    // unless memory ran out.
-    ensures faulty { result.status ≡ 3 → Stopped 3 (script_name (map string_bytes words.now)) T.tells (T.faults store.old, T.faults store.new) (T.file store.old)
-        O.tells (Rose (O.faults out.old) (O.faults out.new)) (O.pieces out.old) (O.pieces out.new) }
-
-    ensures faulty_only { (name : List ℕ) → script_name (map string_bytes words.now) ≡ Some name → T.tells → (Rose (T.faults store.old) (T.faults store.new) → ⊥)
-        → IsFaulty (T.file store.old) name → (result.status ≡ 3) ⊎ (result.status ≡ 5) }
-
-    // 4: a count rose, or the told store lacks a file or holds more of it than its limit.
-    ensures outside { result.status ≡ 4 → Unsaid (script_name (map string_bytes words.now)) T.tells (T.file store.old) (Rose (O.faults out.old) (O.faults out.new))
-        ⊎ (Stopped 4 (script_name (map string_bytes words.now)) T.tells (T.faults store.old, T.faults store.new) (T.file store.old) O.tells (Rose (O.faults out.old) (O.faults out.new)) (O.pieces out.old) (O.pieces out.new)
-        ⊎ Unsunk (script_name (map string_bytes words.now)) T.tells (T.file store.old) (Rose (V.faults vault.old) (V.faults vault.new)) O.tells (O.pieces out.old) (O.pieces out.new)) }
-
-    // 5: memory ran out at a line or in the export, and `out` had no fault; or before the session started. There is no other status.
-    ensures memory { result.status ≡ 5 → RunsOut (script_name (map string_bytes words.now)) T.tells (T.faults store.old, T.faults store.new) (T.file store.old)
-        V.tells (V.faults vault.old, V.faults vault.new) (V.file vault.new) O.tells (O.faults out.old, O.faults out.new) (O.pieces out.old) (O.pieces out.new) }
-    ensures no_other { (result.status ≡ 0) ⊎ ((result.status ≡ 2) ⊎ ((result.status ≡ 3) ⊎ ((result.status ≡ 4) ⊎ (result.status ≡ 5)))) }
-
-    // Whatever the status: what else changed.
-    ensures files { ChangesOnlyExport (script_name (map string_bytes words.now)) T.tells (T.file store.old) V.tells (V.file vault.old) (V.file vault.new) }
-    ensures asked { ExportsWhenAsked (script_name (map string_bytes words.now)) T.tells (T.file store.old) V.tells (V.faults vault.old, V.faults vault.new) (V.file vault.old) (V.file vault.new) O.tells (O.pieces out.old) (O.pieces out.new) }
-    ensures lines { SaysTranscript (script_name (map string_bytes words.now)) T.tells (T.faults store.old, T.faults store.new) (T.file store.old) V.tells (V.faults vault.old, V.faults vault.new) (V.file vault.new) O.tells (O.pieces out.old) (O.pieces out.new) }
-    ensures idle { V.begun vault.new ≡ None }
-    ensures store { (other : List ℕ) → T.file store.new other ≡ T.file store.old other }
-    ensures screen { screen.new ≡ screen.old }
+    requires { (V.seen vault.old).begun ≡ None }
+    ensures { Runs (map string_bytes words.now)
+        record { store = T.seen store.old; vault = V.seen vault.old; screen = S.seen screen.old; out = O.seen out.old }
+        record { store = T.seen store.new; vault = V.seen vault.new; screen = S.seen screen.new; out = O.seen out.new }
+        record { store = T.tells; vault = V.tells; screen = S.tells; out = O.tells }
+        result.status }
 {
     let _ = screen;
     Outcome {

@@ -1,6 +1,6 @@
 //! Putting lines out.
 
-ghost use Rattle.std.specs.Prelude.{◌≡◌, ◌≤◌, ℕ, List, [], ◌∷◌, IfOk, string_bytes};
+ghost use Rattle.std.specs.Prelude.{IsTrue, ◌≡◌, ◌≤◌, ℕ, List, [], ◌∷◌, IfOk, string_bytes};
 ghost use Rattle.timeline_app.specs.Lines.{refused_lines};
 ghost use Rattle.timeline_app.specs.Run.{Says, ending_line};
 
@@ -13,8 +13,11 @@ use tl_ports::{PutFault, Sink};
 
 /// Puts a line.
 pub fn say<O: Sink>(out: &mut O, line: &str) -> Result<(), PutFault>
-    ensures said { Says O.tells (O.pieces out.old) (O.pieces out.new) (line.now ∷ []) (O.faults out.old, O.faults out.new) result }
-    ensures later { O.faults out.old ≤ O.faults out.new }
+    ensures said { Says (IsTrue O.tells) (O.seen out.old).pieces (O.seen out.new).pieces (line.now ∷ []) (
+      (O.seen out.old).faults,
+      (O.seen out.new).faults,
+    ) result }
+    ensures later { (O.seen out.old).faults ≤ (O.seen out.new).faults }
 {
     match out.put(line.as_bytes()) {
         Ok(()) => Ok(()),
@@ -25,8 +28,12 @@ pub fn say<O: Sink>(out: &mut O, line: &str) -> Result<(), PutFault>
 
 /// Puts a line that takes memory to make.
 pub fn say_made<O: Sink>(out: &mut O, line: Result<String, AllocError>) -> Result<(), PutFault>
-    ensures said { (text : List ℕ) → IfOk line (λ made. string_bytes made ≡ text) → Says O.tells (O.pieces out.old) (O.pieces out.new) (text ∷ []) (O.faults out.old, O.faults out.new) result }
-    ensures later { O.faults out.old ≤ O.faults out.new }
+    ensures said { (text : List ℕ) → IfOk line (λ made. string_bytes made ≡ text)
+        → Says (IsTrue O.tells) (O.seen out.old).pieces (O.seen out.new).pieces (text ∷ []) (
+          (O.seen out.old).faults,
+          (O.seen out.new).faults,
+        ) result }
+    ensures later { (O.seen out.old).faults ≤ (O.seen out.new).faults }
 {
     match line {
         Ok(line) => say(out, line.as_str()),
@@ -36,8 +43,9 @@ pub fn say_made<O: Sink>(out: &mut O, line: Result<String, AllocError>) -> Resul
 
 /// Puts the line that says how the export ended.
 pub fn say_ending<O: Sink>(alloc: Global, out: &mut O, ending: Ending) -> Result<(), PutFault>
-    ensures said { Says O.tells (O.pieces out.old) (O.pieces out.new) (ending_line ending ∷ []) (O.faults out.old, O.faults out.new) result }
-    ensures later { O.faults out.old ≤ O.faults out.new }
+    ensures said { Says (IsTrue O.tells) (O.seen out.old).pieces (O.seen out.new).pieces (ending_line ending ∷ [])
+        ((O.seen out.old).faults, (O.seen out.new).faults) result }
+    ensures later { (O.seen out.old).faults ≤ (O.seen out.new).faults }
 {
     match ending {
         Ending::Done { frames } => say_made(out, done_line(alloc, frames)),
@@ -48,8 +56,11 @@ pub fn say_ending<O: Sink>(alloc: Global, out: &mut O, ending: Ending) -> Result
 
 /// Puts the lines of a refused insert and of the refused export of the empty timeline.
 pub fn say_refused<O: Sink>(out: &mut O) -> Result<(), PutFault>
-    ensures said { Says O.tells (O.pieces out.old) (O.pieces out.new) refused_lines (O.faults out.old, O.faults out.new) result }
-    ensures later { O.faults out.old ≤ O.faults out.new }
+    ensures said { Says (IsTrue O.tells) (O.seen out.old).pieces (O.seen out.new).pieces refused_lines (
+      (O.seen out.old).faults,
+      (O.seen out.new).faults,
+    ) result }
+    ensures later { (O.seen out.old).faults ≤ (O.seen out.new).faults }
 {
     match say(out, refused_insert_line()) {
         Ok(()) => say(out, refused_export_line()),

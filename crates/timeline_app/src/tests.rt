@@ -87,207 +87,56 @@ fn clip(alloc: Global, doc_type: &[u8], frames: u16) -> Result<Vec<u8>, AllocErr
     file_of(alloc, doc_type, &content)
 }
 
-/// A run over a script and a clip, and which calls of the store, of the vault and of `out` fail, counted from 1.
-struct Case {
-    script: &'static [u8],
-    frames: u16,
-    store: &'static [u64],
-    vault: &'static [u64],
-    out: &'static [u64],
-    status: u8,
-    lines: &'static str,
-    /// How many bytes the exported file has; none: there is no such file.
-    exported: Option<usize>,
-}
+/// A run: its script; how many frames its clip has; which calls of the store, of the vault and of `out` fail, counted
+/// from 1; its status; what `out` gets; and how many bytes the exported file has, where there is one.
+struct Case(
+    &'static [u8],
+    u16,
+    &'static [u64],
+    &'static [u64],
+    &'static [u64],
+    u8,
+    &'static str,
+    Option<usize>,
+);
 
 const THREE: &[u8] = b"rate 25\nclip A a.mkv\nformat as A\ninsert 0 A 0 3\nexport o.mkv\n";
 
+#[rattlefmt::skip]
 const CASES: [Case; 17] = [
-    Case {
-        script: THREE,
-        frames: 3,
-        store: &[],
-        vault: &[],
-        out: &[],
-        status: 0,
-        lines: "ok 3\nasked 1\nexport 1 done 3\n",
-        exported: Some(261 + 7),
-    },
-    Case {
-        script: b"rate 25\r\nclip A a.mkv\r\nformat as A\r\ninsert 0 A 0 26\r\nexport o.mkv",
-        frames: 26,
-        store: &[],
-        vault: &[],
-        out: &[],
-        status: 0,
-        lines: "ok 26\nasked 1\nexport 1 done 26\n",
-        exported: Some(724 + 7),
-    },
-    Case {
-        script: b"rate 25\nclip A a.mkv\nformat as A\ninsert 0 A 0 4\nexport o.mkv\n",
-        frames: 3,
-        store: &[],
-        vault: &[],
-        out: &[],
-        status: 0,
-        lines: "refused OutsideClip\nrefused EmptyTimeline\n",
-        exported: None,
-    },
-    Case {
-        script: b"rate 25\nclip A a.mkv\nformat as A\nwant 0 3\nexport o.mkv\n",
-        frames: 3,
-        store: &[],
-        vault: &[],
-        out: &[],
-        status: 3,
-        lines: "fault line 4 Later\n",
-        exported: None,
-    },
-    Case {
-        script: b"rate 25\nclip A b.mkv\nformat as A\ninsert 0 A 0 3\nexport o.mkv\n",
-        frames: 3,
-        store: &[],
-        vault: &[],
-        out: &[],
-        status: 4,
-        lines: "store b.mkv Missing\n",
-        exported: None,
-    },
-    Case {
-        script: b"rate 25\nclip A u.mkv\nformat as A\ninsert 0 A 0 3\nexport o.mkv\n",
-        frames: 3,
-        store: &[],
-        vault: &[],
-        out: &[],
-        status: 0,
-        lines: "ok 3\nasked 1\nexport 1 done 3\n",
-        exported: Some(261 + 7),
-    },
-    Case {
-        script: b"rate 25\nclip A w.mkv\nformat as A\ninsert 0 A 0 3\nexport o.mkv\n",
-        frames: 3,
-        store: &[],
-        vault: &[],
-        out: &[],
-        status: 3,
-        lines: "fault line 2 clip DocType\n",
-        exported: None,
-    },
-    Case {
-        script: THREE,
-        frames: 3,
-        store: &[],
-        vault: &[2],
-        out: &[],
-        status: 4,
-        lines: "ok 3\nasked 1\nexport 1 sink\n",
-        // Half of what stands before Info: the EBML header of 40 bytes and the head of the Segment of 12.
-        exported: Some(52 / 2),
-    },
-    Case {
-        script: THREE,
-        frames: 3,
-        store: &[],
-        vault: &[],
-        out: &[2],
-        status: 4,
-        // Half of `asked 1` and its line end; the export that was asked for is made all the same.
-        lines: "ok 3\naske",
-        exported: Some(261 + 7),
-    },
-    Case {
-        script: THREE,
-        frames: 3,
-        store: &[],
-        vault: &[],
-        out: &[1],
-        status: 4,
-        // Half of `ok 3` and its line end; nothing was asked for.
-        lines: "ok",
-        exported: None,
-    },
-    Case {
-        script: THREE,
-        frames: 3,
-        store: &[],
-        vault: &[],
-        out: &[3],
-        status: 4,
-        // Half of `export 1 done 3` and its line end.
-        lines: "ok 3\nasked 1\nexport 1",
-        exported: Some(261 + 7),
-    },
-    Case {
-        script: b"rate 25\nclip A a.mkv\nformat as A\ninsert 0 A 0 4\nexport o.mkv\n",
-        frames: 3,
-        store: &[],
-        vault: &[],
-        out: &[2],
-        status: 4,
-        // Half of `refused EmptyTimeline` and its line end.
-        lines: "refused OutsideClip\nrefused Emp",
-        exported: None,
-    },
-    Case {
-        script: THREE,
-        frames: 3,
-        store: &[1],
-        vault: &[],
-        out: &[],
-        status: 4,
-        lines: "store s Failed\n",
-        exported: None,
-    },
-    Case {
-        script: THREE,
-        frames: 3,
-        store: &[2],
-        vault: &[],
-        out: &[],
-        status: 4,
-        lines: "store a.mkv Failed\n",
-        exported: None,
-    },
-    Case {
-        script: THREE,
-        frames: 3,
-        store: &[],
-        vault: &[1],
-        out: &[],
-        status: 4,
-        lines: "ok 3\nasked 1\nexport 1 sink\n",
-        exported: None,
-    },
-    Case {
-        script: THREE,
-        frames: 3,
-        store: &[],
-        vault: &[7],
-        out: &[],
-        status: 4,
-        lines: "ok 3\nasked 1\nexport 1 sink\n",
-        // The file is whole, and its end fails.
-        exported: Some(261 + 7),
-    },
-    Case {
-        script: b"",
-        frames: 3,
-        store: &[],
-        vault: &[],
-        out: &[],
-        status: 3,
-        lines: "fault line 1 Later\n",
-        exported: None,
-    },
+    Case(THREE, 3, &[], &[], &[], 0, "ok 3\nasked 1\nexport 1 done 3\n", Some(261 + 7)),
+    Case(b"rate 25\r\nclip A a.mkv\r\nformat as A\r\ninsert 0 A 0 26\r\nexport o.mkv", 26, &[], &[], &[], 0, "ok 26\nasked 1\nexport 1 done 26\n", Some(724 + 7)),
+    Case(b"rate 25\nclip A a.mkv\nformat as A\ninsert 0 A 0 4\nexport o.mkv\n", 3, &[], &[], &[], 0, "refused OutsideClip\nrefused EmptyTimeline\n", None),
+    Case(b"rate 25\nclip A a.mkv\nformat as A\nwant 0 3\nexport o.mkv\n", 3, &[], &[], &[], 3, "fault line 4 Later\n", None),
+    Case(b"rate 25\nclip A b.mkv\nformat as A\ninsert 0 A 0 3\nexport o.mkv\n", 3, &[], &[], &[], 4, "store b.mkv Missing\n", None),
+    Case(b"rate 25\nclip A u.mkv\nformat as A\ninsert 0 A 0 3\nexport o.mkv\n", 3, &[], &[], &[], 0, "ok 3\nasked 1\nexport 1 done 3\n", Some(261 + 7)),
+    Case(b"rate 25\nclip A w.mkv\nformat as A\ninsert 0 A 0 3\nexport o.mkv\n", 3, &[], &[], &[], 3, "fault line 2 clip DocType\n", None),
+    // Half of what stands before Info: the EBML header of 40 bytes and the head of the Segment of 12.
+    Case(THREE, 3, &[], &[2], &[], 4, "ok 3\nasked 1\nexport 1 sink\n", Some(52 / 2)),
+    // Half of `asked 1` and its line end; the export that was asked for is made all the same.
+    Case(THREE, 3, &[], &[], &[2], 4, "ok 3\naske", Some(261 + 7)),
+    // Half of `ok 3` and its line end; nothing was asked for.
+    Case(THREE, 3, &[], &[], &[1], 4, "ok", None),
+    // Half of `export 1 done 3` and its line end.
+    Case(THREE, 3, &[], &[], &[3], 4, "ok 3\nasked 1\nexport 1", Some(261 + 7)),
+    // Half of `refused EmptyTimeline` and its line end.
+    Case(b"rate 25\nclip A a.mkv\nformat as A\ninsert 0 A 0 4\nexport o.mkv\n", 3, &[], &[], &[2], 4, "refused OutsideClip\nrefused Emp", None),
+    Case(THREE, 3, &[1], &[], &[], 4, "store s Failed\n", None),
+    Case(THREE, 3, &[2], &[], &[], 4, "store a.mkv Failed\n", None),
+    Case(THREE, 3, &[], &[1], &[], 4, "ok 3\nasked 1\nexport 1 sink\n", None),
+    // The file is whole, and its end fails.
+    Case(THREE, 3, &[], &[7], &[], 4, "ok 3\nasked 1\nexport 1 sink\n", Some(261 + 7)),
+    Case(b"", 3, &[], &[], &[], 3, "fault line 1 Later\n", None),
 ];
 
 /// The store of a case: its script, its clip, the clip with a Cluster of unknown size, and one that isn't Matroska.
 fn store_of(alloc: Global, case: &Case) -> Result<MemStore, AllocError> {
-    let mut store = MemStore::start(alloc, Vec::from_slice(alloc, case.store)?);
-    store.add("s", Vec::from_slice(alloc, case.script)?)?;
-    store.add("a.mkv", clip(alloc, b"matroska", case.frames)?)?;
+    let Case(script, frames, failing, ..) = case;
+    let mut store = MemStore::start(alloc, Vec::from_slice(alloc, failing)?);
+    store.add("s", Vec::from_slice(alloc, script)?)?;
+    store.add("a.mkv", clip(alloc, b"matroska", *frames)?)?;
     store.add("u.mkv", unknown_cluster(alloc)?)?;
-    store.add("w.mkv", clip(alloc, b"webm", case.frames)?)?;
+    store.add("w.mkv", clip(alloc, b"webm", *frames)?)?;
     Ok(store)
 }
 
@@ -309,14 +158,15 @@ fn each_course(rt: HostRuntime) -> Result<(), Fail> {
     let alloc = rt.alloc();
     for case in &CASES {
         let mut store = store_of(alloc, case)?;
-        let mut vault = MemVault::start(alloc, Vec::from_slice(alloc, case.vault)?);
+        let Case(_, _, _, failing, mute, status, lines, exported) = case;
+        let mut vault = MemVault::start(alloc, Vec::from_slice(alloc, failing)?);
         let mut screen = MemSink::start(alloc, Vec::new(alloc));
-        let mut out = MemSink::start(alloc, Vec::from_slice(alloc, case.out)?);
+        let mut out = MemSink::start(alloc, Vec::from_slice(alloc, mute)?);
         let words = vec![in alloc; String::from_str(alloc, "s")?]?;
         let outcome = run_alone(alloc, &words, &mut store, &mut vault, &mut screen, &mut out);
-        assert_eq!(rt; outcome.status, case.status, "{}", case.lines);
-        assert_eq!(rt; out.bytes(), case.lines.as_bytes());
-        assert_eq!(rt; vault.file("o.mkv").map(|file| file.len()), case.exported);
+        assert_eq!(rt; outcome.status, *status, "{lines}");
+        assert_eq!(rt; out.bytes(), lines.as_bytes());
+        assert_eq!(rt; vault.file("o.mkv").map(|file| file.len()), *exported);
     }
     Ok(())
 }

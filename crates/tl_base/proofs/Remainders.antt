@@ -23,9 +23,6 @@ double a b c h =
     let left : bit_xor (a * 2 ^ 1 + 0) (b * 2 ^ 1 + c) ≡ bit_xor (2 * a) (2 * b + c) = ap (λ x. bit_xor x (b * 2 ^ 1 + c)) (omega arith) ∙ ap (λ x. bit_xor (2 * a) x) (omega arith) in
     sym left ∙ e ∙ rw xor_zero_l (omega arith)
 
-generator_split : generator ≡ 1 * 2 ^ 32 + 0x04C11DB7
-generator_split = refl
-
 -- a number of 33 bits less its highest
 high : (s : ℕ) → 2 ^ 32 ≤ s → s < 2 ^ 33 → bit_xor s generator ≡ bit_xor (s - 2 ^ 32) 0x04C11DB7
 high s low top =

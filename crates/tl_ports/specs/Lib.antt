@@ -1,5 +1,6 @@
 pub mod FaultPlan
 pub mod FileList
 pub mod Outside
-pub mod Stream
 pub mod Pieces
+pub mod Seen
+pub mod Stream

@@ -1,70 +1,81 @@
--- What a call to the outside may do: to the bytes, to the count of faults, and which answer has which cause.
--- An object that tells its contents is known byte by byte; of one that doesn't, only the count and what is begun are known.
-use Rattle.std.specs.Prelude.{◌≡◌, ◌≢◌, ◌⊎◌, ℕ, ◌+◌, ◌-◌, ◌<◌, ◌≤◌, ◌^◌, min, List, [], ◌∷◌, ◌++◌, length, take, Option, Some, None, Result, Ok, Err}
+-- What a call to the outside may do: to the contents, to the count of faults, and which answer has which cause.
+-- Of an object that doesn't tell its contents only the count and what is begun are known.
+use Rattle.std.specs.Prelude.{◌≡◌, ◌≢◌, ◌⊎◌, ℕ, ◌+◌, ◌-◌, ◌<◌, ◌≤◌, ◌^◌, min, Bool, IsTrue, List, [], ◌∷◌, ◌++◌, length, take, Some, None, Result, Ok, Err}
 use Rattle.tl_ports.specs.declared.fault.FetchFault.{FetchFault}
 use Rattle.tl_ports.specs.declared.fault.FetchFault.TheVariants as fetching
 use Rattle.tl_ports.specs.declared.fault.PutFault.{PutFault}
 use Rattle.tl_ports.specs.declared.fault.PutFault.TheVariants as putting
+use Rattle.tl_ports.specs.Seen.{StoreSeen, VaultSeen, SinkSeen}
 
 -- The count rose in a call, or stands at the last value of a 64-bit counter.
-abbrev pub Rose : ℕ → ℕ → Type 0
+abbrev pub Rose : (before now : ℕ) → Type 0
 Rose before now = min (before + 1) (2 ^ 64 - 1) ≤ now
 
+-- ---- a store
+
+-- A file that is asked for: its name, and the most bytes that it may have.
+pub record Wanted : Type 0 where
+  pub name : List ℕ
+  pub limit : ℕ
+
+-- These are the bytes of the whole file, and they are within its limit.
+abbrev pub IsFetched : (tells : Bool) (store : StoreSeen) → Wanted → (bytes : List ℕ) → Type 0
+IsFetched tells store wanted bytes = (length bytes ≤ wanted.limit) × (IsTrue tells → store.file wanted.name ≡ Some bytes)
+
+-- The whole file was added at the end of a buffer.
+abbrev pub AddsFile : (tells : Bool) (store : StoreSeen) → Wanted → (before after : List ℕ) → Type 0
+AddsFile tells store wanted before after = (bytes : List ℕ) × (after ≡ before ++ bytes) × IsFetched tells store wanted bytes
+
+-- The file of a name is longer than its limit.
+abbrev pub IsLonger : StoreSeen → Wanted → Type 0
+IsLonger store wanted = (bytes : List ℕ) × (store.file wanted.name ≡ Some bytes) × (wanted.limit < length bytes)
+
+-- It is told to be so, or the count rose.
+abbrev pub IsToldOr : (tells : Bool) (told rose : Type 0) → Type 0
+IsToldOr tells told rose = (IsTrue tells × told) ⊎ rose
+
+-- A fetch that is refused has its cause: the count rose, or the told store lacks the file or has more bytes of it than the limit.
+-- `Ok` and want of memory leave the count as it was.
+abbrev pub FetchHasCause : (tells : Bool) (old new : StoreSeen) → Wanted → Result Unit FetchFault → Type 0
+FetchHasCause tells old new wanted (Ok done) = new.faults ≡ old.faults
+FetchHasCause tells old new wanted (Err fetching.Failed) = Rose old.faults new.faults
+FetchHasCause tells old new wanted (Err fetching.Missing) = IsToldOr tells (old.file wanted.name ≡ None) (Rose old.faults new.faults)
+FetchHasCause tells old new wanted (Err (fetching.TooLarge limit)) =
+    (limit ≡ wanted.limit) × IsToldOr tells (IsLonger old wanted) (Rose old.faults new.faults)
+FetchHasCause tells old new wanted (Err fetching.NoMemory) = new.faults ≡ old.faults
+
+-- ---- a vault or a sink
+
 -- `Failed` comes only where the count rose in that call, and every other answer leaves the count as it was.
-abbrev pub PutHasCause : {T : Type 0} → ℕ → ℕ → Result T PutFault → Type 0
+abbrev pub PutHasCause : {A : Type 0} (before now : ℕ) → Result A PutFault → Type 0
 PutHasCause before now (Ok value) = now ≡ before
 PutHasCause before now (Err putting.Failed) = Rose before now
 PutHasCause before now (Err putting.NoMemory) = now ≡ before
 
--- What a refusal of a fetch says: of a told file that it is so, and of one that isn't told that the count rose.
-abbrev pub IsToldOr : (tells told rose : Type 0) → Type 0
-IsToldOr tells told rose = (tells × told) ⊎ ((tells → ⊥) × rose)
-
--- A file is longer than a limit.
-abbrev pub IsLonger : (kept : Option (List ℕ)) (limit : ℕ) → Type 0
-IsLonger kept limit = (text : List ℕ) × (kept ≡ Some text) × (limit < length text)
-
--- A refused fetch has its cause: `Failed` comes only where the count rose; a file is `Missing` or `TooLarge` where it is told to be so,
--- or isn't told and the count rose; and want of memory leaves the count as it was.
-abbrev pub FetchHasCause : (tells : Type 0) (kept : Option (List ℕ)) (limit : ℕ) (before now : ℕ) → FetchFault → Type 0
-FetchHasCause tells kept limit before now fetching.Failed = Rose before now
-FetchHasCause tells kept limit before now fetching.Missing = IsToldOr tells (kept ≡ None) (Rose before now)
-FetchHasCause tells kept limit before now (fetching.TooLarge told) = (told ≡ limit) × IsToldOr tells (IsLonger kept limit) (Rose before now)
-FetchHasCause tells kept limit before now fetching.NoMemory = now ≡ before
-
--- A fetch of a file that holds `kept` (none: there is no such file), into a buffer that held `before` and then holds `after`.
--- `Ok` appends the whole file, of at most `limit` bytes. Every other answer leaves the buffer as it was.
-abbrev pub Fetches : (tells : Type 0) (kept : Option (List ℕ)) (limit : ℕ) (before after : List ℕ) → Result Unit FetchFault → Type 0
-Fetches tells kept limit before after (Ok done) = (piece : List ℕ) × (after ≡ before ++ piece) × (length piece ≤ limit) × (tells → kept ≡ Some piece)
-Fetches tells kept limit before after (Err fault) = after ≡ before
-
--- What comes of a fetch has its cause, and a fetch that is Ok leaves the count of faults as it was.
-abbrev pub FetchedByCause : (tells : Type 0) (kept : Option (List ℕ)) (limit : ℕ) (before now : ℕ) → Result Unit FetchFault → Type 0
-FetchedByCause tells kept limit before now (Ok done) = now ≡ before
-FetchedByCause tells kept limit before now (Err fault) = FetchHasCause tells kept limit before now fault
-
--- A piece was added whole, or after a refusal some front of it.
-abbrev pub Adds : (before after piece : List ℕ) → Result Unit PutFault → Type 0
-Adds before after piece (Ok done) = after ≡ before ++ piece
-Adds before after piece (Err fault) = (count : ℕ) × (after ≡ before ++ take count piece)
-
--- A piece was put, whole, or where the call failed some front of it or nothing, and where memory was wanting nothing: one call puts one piece.
-abbrev pub PutsPiece : (before after : List (List ℕ)) (piece : List ℕ) → Result Unit PutFault → Type 0
-PutsPiece before after piece (Ok done) = after ≡ before ++ piece ∷ []
-PutsPiece before after piece (Err putting.Failed) = (after ≡ before) ⊎ ((count : ℕ) × (after ≡ before ++ take count piece ∷ []))
-PutsPiece before after piece (Err putting.NoMemory) = after ≡ before
-
--- After `begin`: at `Ok` the name is begun and its file is empty; after a refusal none is begun and the named file is as before or empty.
-abbrev pub Begins : (tells : Type 0) (name : List ℕ) (begun : Option (List ℕ)) (before after : Option (List ℕ)) → Result Unit PutFault → Type 0
-Begins tells name begun before after (Ok done) = (begun ≡ Some name) × (tells → after ≡ Some [])
-Begins tells name begun before after (Err fault) = (begun ≡ None) × (tells → (after ≡ before) ⊎ (after ≡ Some []))
+-- At `Ok` the file of this name is begun, and empty. After a refusal none is begun, and that file is as before or empty.
+abbrev pub Begins : (tells : Bool) (old new : VaultSeen) (name : List ℕ) → Result Unit PutFault → Type 0
+Begins tells old new name (Ok done) = (new.begun ≡ Some name) × (IsTrue tells → new.file name ≡ Some [])
+Begins tells old new name (Err fault) =
+    (new.begun ≡ None) × (IsTrue tells → (new.file name ≡ old.file name) ⊎ (new.file name ≡ Some []))
 
 -- Files of other names than this one are as before.
-abbrev pub KeepsOthers : (tells : Type 0) (name : List ℕ) (before after : List ℕ → Option (List ℕ)) → Type 0
-KeepsOthers tells name before after = tells → (other : List ℕ) → other ≢ name → after other ≡ before other
+abbrev pub KeepsOthers : (tells : Bool) (old new : VaultSeen) (name : List ℕ) → Type 0
+KeepsOthers tells old new name = IsTrue tells → (other : List ℕ) → other ≢ name → new.file other ≡ old.file other
+
+-- A piece was added to the begun file, whole, or after a refusal some front of it.
+abbrev pub Adds : (tells : Bool) (old new : VaultSeen) (piece : List ℕ) → Result Unit PutFault → Type 0
+Adds tells old new piece (Ok done) = IsTrue tells → new.held ≡ old.held ++ piece
+Adds tells old new piece (Err fault) = IsTrue tells → (count : ℕ) × (new.held ≡ old.held ++ take count piece)
 
 -- What each call that writes into the begun file keeps: it stays begun, no file of another name changes, and the count doesn't fall.
-pub record KeepsBegun {V : Type 0} (tells : Type 0) (begun : V → Option (List ℕ)) (file : V → List ℕ → Option (List ℕ)) (faults : V → ℕ) (old new : V) : Type 0 where
-  pub same : begun new ≡ begun old
-  pub others : tells → (other : List ℕ) → begun old ≢ Some other → file new other ≡ file old other
-  pub later : faults old ≤ faults new
+pub record KeepsBegun (tells : Bool) (old new : VaultSeen) : Type 0 where
+  pub same : new.begun ≡ old.begun
+  pub others : IsTrue tells → (other : List ℕ) → old.begun ≢ Some other → new.file other ≡ old.file other
+  pub later : old.faults ≤ new.faults
+
+-- A piece was put, whole, or where the call failed some front of it or nothing, and where memory was wanting nothing.
+abbrev pub PutsPiece : (tells : Bool) (old new : SinkSeen) (piece : List ℕ) → Result Unit PutFault → Type 0
+PutsPiece tells old new piece (Ok done) = IsTrue tells → new.pieces ≡ old.pieces ++ piece ∷ []
+PutsPiece tells old new piece (Err putting.Failed) =
+    IsTrue tells → (new.pieces ≡ old.pieces) ⊎ ((count : ℕ) × (new.pieces ≡ old.pieces ++ take count piece ∷ []))
+PutsPiece tells old new piece (Err putting.NoMemory) = IsTrue tells → new.pieces ≡ old.pieces

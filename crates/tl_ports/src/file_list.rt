@@ -1,9 +1,11 @@
 //! A small list of files in memory.
 
-ghost use Rattle.std.specs.Prelude.{◌≡◌, ◌≢◌, ◌≤◌, ◌<◌, ℕ, List, Some, None, IfSome, OnOk, OnErr, vec_len, vec_capacity, slice_get, position};
+ghost use Rattle.std.specs.Prelude.{◌≡◌, ◌≢◌, ◌≤◌, ℕ, List, true, Some, None, [], OnOk, OnErr, vec_len, vec_capacity, position};
 ghost use Rattle.std.specs.Option.{option_copied};
-ghost use Rattle.tl_ports.specs.FileList.{has_name, file_in, latest_name, latest_bytes};
+ghost use Rattle.tl_ports.specs.Outside.{AddsFile, FetchHasCause};
+ghost use Rattle.tl_ports.specs.FileList.{has_name, file_in, store_of, latest_name, latest_bytes};
 
+use crate::fault::FetchFault;
 use std::alloc::{AllocError, Global};
 
 /// A file in memory: its name and its bytes.
@@ -42,6 +44,27 @@ impl FileList {
             .map(|file| file.bytes.as_slice())
     }
 
+    /// Appends the whole file of a name, of at most `limit` bytes.
+    pub(crate) fn fetch(&self, name: &str, limit: u64, into: &mut Vec<u8>) -> Result<(), FetchFault>
+        ensures fetched { OnOk result (AddsFile true (store_of self.now.files.items 0)
+            record { name = name.now; limit = limit } into.old.items into.new.items) }
+        ensures buffer { OnErr result (into.new.items ≡ into.old.items) }
+        ensures cause { (before now : ℕ) → now ≡ before → FetchHasCause true (store_of self.now.files.items before)
+            (store_of self.now.files.items now) record { name = name.now; limit = limit } result }
+        ensures known { result ≢ Err FetchFault.Failed }
+    {
+        let Some(bytes) = self.bytes_of(name.as_bytes()) else {
+            return Err(FetchFault::Missing);
+        };
+        if bytes.len() as u64 > limit {
+            return Err(FetchFault::TooLarge { limit });
+        }
+        match into.extend_from_slice(bytes) {
+            Ok(()) => Ok(()),
+            Err(_) => Err(FetchFault::NoMemory),
+        }
+    }
+
     fn place_of(&self, name: &[u8]) -> Option<usize>
         ensures { result ≡ position (has_name name.now) self.now.files.items }
     {
@@ -60,6 +83,20 @@ impl FileList {
         if let Some(place) = self.place_of(name) {
             let _ = self.files.remove(place);
         }
+    }
+
+    /// Puts an empty file under a name, as the latest, in the place of one that is there.
+    pub(crate) fn begin(&mut self, name: &[u8]) -> Result<(), AllocError>
+        ensures file { OnOk result (file_in self.new.files.items name.now ≡ Some []) }
+        ensures others { (other : List ℕ) → other ≢ name.now → file_in self.new.files.items other
+            ≡ file_in self.old.files.items other }
+        ensures latest { OnOk result (latest_name self.new.files.items ≡ Some name.now) }
+        ensures held { OnOk result (latest_bytes self.new.files.items ≡ []) }
+        ensures err { OnErr result (self.new.files.items ≡ self.old.files.items) }
+    {
+        let nothing = Vec::new(self.allocator());
+        self.put(name, nothing)?;
+        Ok(())
     }
 
     /// Puts a file under its name, as the latest, in the place of one that is there.

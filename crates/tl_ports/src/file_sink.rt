@@ -1,6 +1,6 @@
 //! A sink over a file.
 
-ghost use Rattle.std.specs.Prelude.{◌≡◌, []};
+ghost use Rattle.std.specs.Prelude.{◌≡◌, false, []};
 
 use crate::fault::PutFault;
 use crate::ports::Sink;
@@ -20,7 +20,7 @@ pub struct FileSink<'a, R: Files> {
 impl<'a, R: Files> FileSink<'a, R> {
     /// A sink whose file isn't opened yet.
     pub fn start(rt: &'a R, name: String) -> FileSink<'a, R>
-        ensures { ⟦<FileSink<'a, R> as Sink>⟧.faults result ≡ 0 }
+        ensures { (⟦<FileSink<'a, R> as Sink>⟧.seen result).faults ≡ 0 }
     {
         FileSink {
             rt,
@@ -32,11 +32,9 @@ impl<'a, R: Files> FileSink<'a, R> {
 }
 
 impl<R: Files> Sink for FileSink<'_, R> {
-    ghost tells = { ⊥ };
+    ghost tells = { false };
 
-    ghost pieces = { λ sink. [] };
-
-    ghost faults = { λ sink. sink.faults };
+    ghost seen = { λ sink. record { pieces = []; faults = sink.faults } };
 
     /// `Failed` where the file can't be opened, at an error of a write, and where a write takes none of the bytes.
     fn put(&mut self, bytes: &[u8]) -> Result<(), PutFault> {

@@ -1,6 +1,6 @@
 //! A store over a folder.
 
-ghost use Rattle.std.specs.Prelude.{◌≡◌, ◌≢◌, ℕ, ◌+◌, ◌≤◌, None, IfErr, OnOk, vec_len};
+ghost use Rattle.std.specs.Prelude.{◌≡◌, ◌≢◌, ℕ, ◌+◌, ◌≤◌, false, None, IfErr, OnOk, vec_len};
 ghost use Rattle.std.specs.Io.{StartsWith};
 ghost use Rattle.tl_ports.specs.Stream.{IsOver};
 
@@ -23,18 +23,16 @@ pub struct FolderStore<'a, R: Files> {
 impl<'a, R: Files> FolderStore<'a, R> {
     /// A store with no faults yet.
     pub fn start(rt: &'a R) -> FolderStore<'a, R>
-        ensures { ⟦<FolderStore<'a, R> as Store>⟧.faults result ≡ 0 }
+        ensures { (⟦<FolderStore<'a, R> as Store>⟧.seen result).faults ≡ 0 }
     {
         FolderStore { rt, faults: 0 }
     }
 }
 
 impl<R: Files> Store for FolderStore<'_, R> {
-    ghost tells = { ⊥ };
+    ghost tells = { false };
 
-    ghost file = { λ store name. None };
-
-    ghost faults = { λ store. store.faults };
+    ghost seen = { λ store. record { file = λ name. None; faults = store.faults } };
 
     /// `Missing` where the system knows no such file, `TooLarge` where it has more than `limit` bytes, `NoMemory` where
     /// there is no room for it, and `Failed` at any other error, as at a folder.

@@ -1,20 +1,22 @@
 //! A vault over a folder.
 
-ghost use Rattle.std.specs.Prelude.{◌≡◌, ◌≤◌, [], None};
+ghost use Rattle.std.specs.Prelude.{◌≡◌, ◌≤◌, false, [], None, string_bytes};
 ghost use Rattle.std.specs.Option.{option_map};
+ghost use Rattle.std.proofs.lemmas.Bool.{false≢true};
 ghost use Rattle.tl_ports.specs.Outside.{Rose};
 ghost use Rattle.tl_ports.specs.FaultPlan.{one_more};
 
 use crate::fault::PutFault;
+use crate::output::{Output, open, part_name};
 use crate::ports::Vault;
-use crate::stream::write_counted;
-use std::fs::OpenFile;
-use std::io::Write;
 use std::rt::Files;
-use std::{fs, io};
 
 /// Files of the current folder and below it, to be written one at a time. A name is a path.
 /// It tells no file. Its count rises at every error.
+///
+/// Until a file is whole its bytes go to a part beside it, `NAME.part`; then that takes its place. So a file that had the
+/// name is never lost to one that failed or was cut off. A link is replaced, and what it points to stays as it was. What
+/// isn't a file on a disk, as a pipe or a device, is written to straight.
 #[derive(Drop)]
 pub struct FolderVault<'a, R: Files> {
     rt: &'a R,
@@ -25,15 +27,15 @@ pub struct FolderVault<'a, R: Files> {
 /// A file that is begun, and its name.
 #[derive(Drop)]
 struct Begun<F> {
-    name: Vec<u8>,
-    file: F,
+    name: String,
+    output: Output<F>,
 }
 
 impl<'a, R: Files + AllocGlobal> FolderVault<'a, R> {
     /// A vault with no file begun, and no faults yet.
     pub fn start(rt: &'a R) -> FolderVault<'a, R>
-        ensures begun { ⟦<FolderVault<'a, R> as Vault>⟧.begun result ≡ None }
-        ensures faults { ⟦<FolderVault<'a, R> as Vault>⟧.faults result ≡ 0 }
+        ensures begun { (⟦<FolderVault<'a, R> as Vault>⟧.seen result).begun ≡ None }
+        ensures faults { (⟦<FolderVault<'a, R> as Vault>⟧.seen result).faults ≡ 0 }
     {
         FolderVault {
             rt,
@@ -56,28 +58,32 @@ impl<'a, R: Files + AllocGlobal> FolderVault<'a, R> {
 }
 
 impl<R: Files + AllocGlobal> Vault for FolderVault<'_, R> {
-    ghost tells = { ⊥ };
+    ghost tells = { false };
 
-    ghost file = { λ vault name. None };
+    ghost seen = { λ vault. record {
+      file = λ name. None;
+      begun = option_map (λ begun. string_bytes begun.name) vault.begun;
+      held = [];
+      faults = vault.faults;
+    } };
 
-    ghost begun = { λ vault. option_map (λ begun. begun.name.items) vault.begun };
+    ghost held_is = { λ told. absurd (false≢true told) };
 
-    ghost held = { λ vault. [] };
-
-    ghost faults = { λ vault. vault.faults };
-
-    ghost held_is = { λ told vault name begun. absurd told };
-
-    /// Creates the file, or empties one that is there. `Failed` where the system does neither.
+    /// Begins the part of the file, in the place of one that a killed run left. `Failed` where the system doesn't, and
+    /// where what has the name can't be written, as a folder or a file without the leave to.
     fn begin(&mut self, name: &str) -> Result<(), PutFault> {
-        let Ok(name_copy) = Vec::from_slice(self.rt.alloc(), name.as_bytes()) else {
+        let alloc = self.rt.alloc();
+        let Ok(name_copy) = String::from_str(alloc, name) else {
             return Err(PutFault::NoMemory);
         };
-        match fs::create(self.rt, name) {
-            Ok(file) => {
+        let Ok(part) = part_name(alloc, name) else {
+            return Err(PutFault::NoMemory);
+        };
+        match open(self.rt, name, part) {
+            Ok(output) => {
                 self.begun = Some(Begun {
                     name: name_copy,
-                    file,
+                    output,
                 });
                 Ok(())
             }
@@ -90,29 +96,22 @@ impl<R: Files + AllocGlobal> Vault for FolderVault<'_, R> {
         let Some(mut begun) = self.begun.take() else {
             unreachable!()
         };
-        let outcome = write_counted(&mut begun.file, bytes, &mut self.faults);
+        let outcome = begun.output.write(bytes, &mut self.faults);
         self.begun = Some(begun);
         outcome?;
         Ok(())
     }
 
-    /// Closes the file, once its bytes are on the disk. `Failed` where they don't get there.
+    /// Puts the file in its place, once its bytes are on the disk. `Failed` where they don't get there, or a write failed:
+    /// what had the name has it still.
     fn end(&mut self) -> Result<(), PutFault> {
-        let Some(mut begun) = self.begun.take() else {
+        let Some(Begun { name, output }) = self.begun.take() else {
             unreachable!()
         };
-        match finish(&mut begun.file) {
-            Ok(()) => Ok(()),
-            Err(_) => Err(self.fail()),
+        if output.close(self.rt, name.as_str()) {
+            Ok(())
+        } else {
+            Err(self.fail())
         }
     }
-}
-
-/// Hands what was written to the disk. What isn't a file on a disk, as a pipe, can't be synced, and needn't be.
-fn finish<F: Write + OpenFile>(file: &mut F) -> io::Result<()> {
-    file.flush()?;
-    if file.metadata()?.is_file() {
-        file.sync_data()?;
-    }
-    Ok(())
 }

@@ -1,6 +1,6 @@
 //! A sink in memory.
 
-ghost use Rattle.std.specs.Prelude.{◌≡◌, ◌≤◌, [], length, sum};
+ghost use Rattle.std.specs.Prelude.{◌≡◌, ◌≤◌, true, [], length, sum};
 ghost use Rattle.std.specs.List.{concat};
 ghost use Rattle.tl_ports.specs.Outside.{PutsPiece, PutHasCause};
 ghost use Rattle.tl_ports.specs.FaultPlan.{FailsNext, CountsCall, IsFresh, CountsPut};
@@ -25,9 +25,9 @@ pub struct MemSink {
 impl MemSink {
     /// A sink with no bytes, in which the puts of these numbers, counted from 1, are to fail.
     pub fn start(alloc: Global, fail: Vec<u64>) -> MemSink
-        ensures empty { ⟦<MemSink as Sink>⟧.pieces result ≡ [] }
+        ensures empty { (⟦<MemSink as Sink>⟧.seen result).pieces ≡ [] }
         ensures plan { IsFresh result.plan fail.items }
-        ensures faults { ⟦<MemSink as Sink>⟧.faults result ≡ 0 }
+        ensures faults { (⟦<MemSink as Sink>⟧.seen result).faults ≡ 0 }
     {
         MemSink {
             bytes: Vec::new(alloc),
@@ -38,27 +38,24 @@ impl MemSink {
 
     /// The bytes that were put, of all pieces.
     pub fn bytes(&self) -> &[u8]
-        ensures { result.now ≡ concat (⟦<MemSink as Sink>⟧.pieces self.now) }
+        ensures { result.now ≡ concat (⟦<MemSink as Sink>⟧.seen self.now).pieces }
     {
         self.bytes.as_slice()
     }
 }
 
 impl Sink for MemSink {
-    ghost tells = { Unit {0} };
+    ghost tells = { true };
 
-    ghost pieces = { λ sink. cut sink.bytes.items sink.lens.items };
-
-    ghost faults = { λ sink. sink.plan.faults };
+    ghost seen = { λ sink. record { pieces = cut sink.bytes.items sink.lens.items; faults = sink.plan.faults } };
 
     /// Where its number is in the list it adds the first half of the piece and answers `Failed`.
     fn put(&mut self, bytes: &[u8]) -> Result<(), PutFault>
-        ensures added { PutsPiece (⟦<MemSink as Sink>⟧.pieces self.old)
-            (⟦<MemSink as Sink>⟧.pieces self.new) bytes.now result }
-        ensures later { ⟦<MemSink as Sink>⟧.faults self.old ≤ ⟦<MemSink as Sink>⟧.faults self.new }
-        ensures cause { PutHasCause (⟦<MemSink as Sink>⟧.faults self.old) (⟦<MemSink as Sink>⟧.faults self.new) result }
-        ensures puts { PutsPieceByPlan (FailsNext self.old.plan) (⟦<MemSink as Sink>⟧.pieces self.old)
-            (⟦<MemSink as Sink>⟧.pieces self.new) bytes.now result }
+        ensures added { PutsPiece true (⟦<MemSink as Sink>⟧.seen self.old) (⟦<MemSink as Sink>⟧.seen self.new) bytes.now result }
+        ensures later { (⟦<MemSink as Sink>⟧.seen self.old).faults ≤ (⟦<MemSink as Sink>⟧.seen self.new).faults }
+        ensures cause { PutHasCause (⟦<MemSink as Sink>⟧.seen self.old).faults (⟦<MemSink as Sink>⟧.seen self.new).faults result }
+        ensures puts { PutsPieceByPlan (FailsNext self.old.plan) (⟦<MemSink as Sink>⟧.seen self.old).pieces
+            (⟦<MemSink as Sink>⟧.seen self.new).pieces bytes.now result }
         ensures counted { CountsCall self.old.plan self.new.plan }
         ensures faults { CountsPut self.old.plan.faults self.new.plan.faults result }
     {

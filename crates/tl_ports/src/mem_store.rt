@@ -1,9 +1,9 @@
 //! A store in memory.
 
-ghost use Rattle.std.specs.Prelude.{◌≡◌, ◌≢◌, ◌≤◌, ◌↔◌, ℕ, List, Some, None, OnOk, OnErr, IsErrOf};
-ghost use Rattle.tl_ports.specs.Outside.{Fetches, FetchedByCause};
+ghost use Rattle.std.specs.Prelude.{◌≡◌, ◌≤◌, ◌↔◌, ℕ, List, true, None, OnOk, OnErr, IsErrOf};
+ghost use Rattle.tl_ports.specs.Outside.{AddsFile, FetchHasCause};
 ghost use Rattle.tl_ports.specs.FaultPlan.{FailsNext, CountsCall, CountsFault, IsFresh};
-ghost use Rattle.tl_ports.specs.FileList.{file_in};
+ghost use Rattle.tl_ports.specs.FileList.{store_of, PutsFile};
 
 use crate::fault::FetchFault;
 use crate::fault_plan::FaultPlan;
@@ -22,9 +22,9 @@ pub struct MemStore {
 impl MemStore {
     /// A store with no files, in which the fetches of these numbers, counted from 1, are to fail.
     pub fn start(alloc: Global, fail: Vec<u64>) -> MemStore
-        ensures empty { (name : List ℕ) → ⟦<MemStore as Store>⟧.file result name ≡ None }
+        ensures empty { (name : List ℕ) → (⟦<MemStore as Store>⟧.seen result).file name ≡ None }
         ensures plan { IsFresh result.plan fail.items }
-        ensures faults { ⟦<MemStore as Store>⟧.faults result ≡ 0 }
+        ensures faults { (⟦<MemStore as Store>⟧.seen result).faults ≡ 0 }
     {
         MemStore {
             files: FileList::new(alloc),
@@ -34,13 +34,10 @@ impl MemStore {
 
     /// Puts a file under its name, in the place of one that is there. After a refusal the files are as before.
     pub fn add(&mut self, name: &str, bytes: Vec<u8>) -> Result<(), AllocError>
-        ensures file { OnOk result (⟦<MemStore as Store>⟧.file self.new name.now ≡ Some bytes.items) }
-        ensures others { (other : List ℕ) → other ≢ name.now → ⟦<MemStore as Store>⟧.file self.new other
-            ≡ ⟦<MemStore as Store>⟧.file self.old other }
-        ensures err { OnErr result
-            ((other : List ℕ) → ⟦<MemStore as Store>⟧.file self.new other ≡ ⟦<MemStore as Store>⟧.file self.old other) }
+        ensures ok { OnOk result
+            (PutsFile (⟦<MemStore as Store>⟧.seen self.old) (⟦<MemStore as Store>⟧.seen self.new) name.now bytes.items) }
+        ensures err { OnErr result (⟦<MemStore as Store>⟧.seen self.new ≡ ⟦<MemStore as Store>⟧.seen self.old) }
         ensures plan { self.new.plan ≡ self.old.plan }
-        ensures faults { ⟦<MemStore as Store>⟧.faults self.new ≡ ⟦<MemStore as Store>⟧.faults self.old }
     {
         self.files.put(name.as_bytes(), bytes)?;
         Ok(())
@@ -48,21 +45,19 @@ impl MemStore {
 }
 
 impl Store for MemStore {
-    ghost tells = { Unit {0} };
+    ghost tells = { true };
 
-    ghost file = { λ store name. file_in store.files.files.items name };
-
-    ghost faults = { λ store. store.plan.faults };
+    ghost seen = { λ store. store_of store.files.files.items store.plan.faults };
 
     /// Answers `Failed` exactly where its number is in the list.
     fn fetch(&mut self, name: &str, limit: u64, into: &mut Vec<u8>) -> Result<(), FetchFault>
-        ensures fetched { Fetches (Unit {0})
-            (⟦<MemStore as Store>⟧.file self.old name.now) limit into.old.items into.new.items result }
-        ensures cause { FetchedByCause (Unit {0}) (⟦<MemStore as Store>⟧.file self.old name.now) limit
-            (⟦<MemStore as Store>⟧.faults self.old) (⟦<MemStore as Store>⟧.faults self.new) result }
-        ensures files { (other : List ℕ) → ⟦<MemStore as Store>⟧.file self.new other
-            ≡ ⟦<MemStore as Store>⟧.file self.old other }
-        ensures later { ⟦<MemStore as Store>⟧.faults self.old ≤ ⟦<MemStore as Store>⟧.faults self.new }
+        ensures fetched { OnOk result (AddsFile true (⟦<MemStore as Store>⟧.seen self.old)
+            record { name = name.now; limit = limit } into.old.items into.new.items) }
+        ensures buffer { OnErr result (into.new.items ≡ into.old.items) }
+        ensures cause { FetchHasCause true (⟦<MemStore as Store>⟧.seen self.old) (⟦<MemStore as Store>⟧.seen self.new)
+            record { name = name.now; limit = limit } result }
+        ensures files { (⟦<MemStore as Store>⟧.seen self.new).file ≡ (⟦<MemStore as Store>⟧.seen self.old).file }
+        ensures later { (⟦<MemStore as Store>⟧.seen self.old).faults ≤ (⟦<MemStore as Store>⟧.seen self.new).faults }
         ensures fails { IsErrOf result FetchFault.Failed ↔ FailsNext self.old.plan }
         ensures counted { CountsCall self.old.plan self.new.plan }
         ensures faults { CountsFault self.old.plan self.new.plan }
@@ -70,24 +65,6 @@ impl Store for MemStore {
         if self.plan.next_fails() {
             return Err(FetchFault::Failed);
         }
-        match self.files.bytes_of(name.as_bytes()) {
-            None => Err(FetchFault::Missing),
-            Some(bytes) => copy_within(bytes, limit, into),
-        }
-    }
-}
-
-/// Appends a whole file of at most `limit` bytes.
-fn copy_within(bytes: &[u8], limit: u64, into: &mut Vec<u8>) -> Result<(), FetchFault>
-    ensures copied { Fetches (Unit {0}) (Some bytes.now) limit into.old.items into.new.items result }
-    ensures cause { (before now : ℕ) → now ≡ before → FetchedByCause (Unit {0}) (Some bytes.now) limit before now result }
-    ensures known { result ≢ Err FetchFault.Failed }
-{
-    if bytes.len() as u64 > limit {
-        return Err(FetchFault::TooLarge { limit });
-    }
-    match into.extend_from_slice(bytes) {
-        Ok(()) => Ok(()),
-        Err(_) => Err(FetchFault::NoMemory),
+        self.files.fetch(name, limit, into)
     }
 }

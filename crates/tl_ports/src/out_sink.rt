@@ -1,6 +1,6 @@
 //! A sink over the standard output.
 
-ghost use Rattle.std.specs.Prelude.{◌≡◌, []};
+ghost use Rattle.std.specs.Prelude.{◌≡◌, false, []};
 
 use crate::fault::PutFault;
 use crate::ports::Sink;
@@ -17,18 +17,16 @@ pub struct OutSink<'a, R: Print> {
 impl<'a, R: Print> OutSink<'a, R> {
     /// A sink with no faults yet.
     pub fn start(rt: &'a R) -> OutSink<'a, R>
-        ensures { ⟦<OutSink<'a, R> as Sink>⟧.faults result ≡ 0 }
+        ensures { (⟦<OutSink<'a, R> as Sink>⟧.seen result).faults ≡ 0 }
     {
         OutSink { rt, faults: 0 }
     }
 }
 
 impl<R: Print> Sink for OutSink<'_, R> {
-    ghost tells = { ⊥ };
+    ghost tells = { false };
 
-    ghost pieces = { λ sink. [] };
-
-    ghost faults = { λ sink. sink.faults };
+    ghost seen = { λ sink. record { pieces = []; faults = sink.faults } };
 
     /// `Failed` at an error of a write, and where a write takes none of the bytes.
     fn put(&mut self, bytes: &[u8]) -> Result<(), PutFault> {

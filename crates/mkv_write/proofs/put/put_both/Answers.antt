@@ -5,4 +5,4 @@ use Rattle.mkv_write.proofs.put.put_both.Goals as goal
 pub returns-in_err-put-clause-put : goal.returns-in_err-put-clause-put
 returns-in_err-put-clause-put g c =
     let p = err_from_is_err_and c.from_residual.result c.from_residual.ensures.1 in
-    rw p.1 (λ t. prefix_first (g.V.Vault.held c.args.vault.now) c.args.first.now c.args.second.now _ (c.in_err-put.ensures.put t))
+    rw p.1 (λ t. prefix_first (g.V.Vault.seen c.args.vault.now).held c.args.first.now c.args.second.now _ (c.in_err-put.ensures.put t))

@@ -1,3 +1,4 @@
+use Rattle.std.specs.Prelude.{IsTrue}
 use Rattle.std.proofs.Common.{ℕ, List, ◌⊎◌, ◌≡◌, Some, [], subst, string_bytes}
 use Rattle.timeline_app.specs.Reading.{view}
 use Rattle.timeline_app.proofs.Exporting.{refused_begin}
@@ -5,16 +6,16 @@ use Rattle.timeline_app.proofs.export.export.Goals as goal
 
 pub returns-in-Err-Failed-clause-file : goal.returns-in-Err-Failed-clause-file
 returns-in-Err-Failed-clause-file g c =
-    let old = g.V.Vault.file c.args.vault.now in
-    let new = g.V.Vault.file c.begin.new.self in
+    let old = (g.V.Vault.seen c.args.vault.now).file in
+    let new = (g.V.Vault.seen c.begin.new.self).file in
     let export = string_bytes c.args.job.now.script.export in
-    refused_begin g.V.Vault.tells (old export) (new export) (view c.args.job.now.script) c.args.job.now.bytes.items c.args.job.now.index
-    (subst (λ (name : List ℕ). g.V.Vault.tells → (new name ≡ old name) ⊎ (new name ≡ Some [])) c.as_str.ensures.value c.in-Err-Failed.ensures.begun.1)
+    refused_begin (IsTrue g.V.Vault.tells) (old export) (new export) (view c.args.job.now.script) c.args.job.now.bytes.items c.args.job.now.index
+    (subst (λ (name : List ℕ). IsTrue g.V.Vault.tells → (new name ≡ old name) ⊎ (new name ≡ Some [])) c.as_str.ensures.value c.in-Err-Failed.ensures.begun.1)
 
 pub returns-in-Err-NoMemory-clause-file : goal.returns-in-Err-NoMemory-clause-file
 returns-in-Err-NoMemory-clause-file g c =
-    let old = g.V.Vault.file c.args.vault.now in
-    let new = g.V.Vault.file c.begin.new.self in
+    let old = (g.V.Vault.seen c.args.vault.now).file in
+    let new = (g.V.Vault.seen c.begin.new.self).file in
     let export = string_bytes c.args.job.now.script.export in
-    refused_begin g.V.Vault.tells (old export) (new export) (view c.args.job.now.script) c.args.job.now.bytes.items c.args.job.now.index
-    (subst (λ (name : List ℕ). g.V.Vault.tells → (new name ≡ old name) ⊎ (new name ≡ Some [])) c.as_str.ensures.value c.in-Err-NoMemory.ensures.begun.1)
+    refused_begin (IsTrue g.V.Vault.tells) (old export) (new export) (view c.args.job.now.script) c.args.job.now.bytes.items c.args.job.now.index
+    (subst (λ (name : List ℕ). IsTrue g.V.Vault.tells → (new name ≡ old name) ⊎ (new name ≡ Some [])) c.as_str.ensures.value c.in-Err-NoMemory.ensures.begun.1)

@@ -1,4 +1,5 @@
-use Rattle.std.proofs.Common.{◌∙◌, string_bytes}
+use Rattle.std.specs.Prelude.{IsTrue}
+use Rattle.std.proofs.Common.{ℕ, List, Option, ap, ◌∙◌, string_bytes}
 use Rattle.timeline_app.specs.Reading.{view}
 use Rattle.timeline_app.proofs.Exporting.{ends, partial_written}
 use Rattle.timeline_app.proofs.export.export_begun.Goals as goal
@@ -12,9 +13,9 @@ returns-clause-ended g c =
     let kept = c.write_packets-written.ensures.kept in
     let export = string_bytes job.script.export in
     rw c.ending_of.ensures
-    (ends V.tells (V.file now) (V.held mid) (view job.script) job.bytes.items job.index (V.faults c.args.vault.now) (V.faults mid) (V.faults now)
+    (ends (IsTrue V.tells) (V.seen now).file (V.seen mid).held (view job.script) job.bytes.items job.index (V.seen c.args.vault.now).faults (V.seen mid).faults (V.seen now).faults
     c.write_packets-written.result c.end-ended.result
-    (λ told. c.end-ended.ensures.files told export ∙ g.met.V.Vault.held_is told mid export (kept.same ∙ c.requires.begun))
+    (λ told. ap (λ (of : List ℕ → Option (List ℕ)). of export) (c.end-ended.ensures.files told) ∙ g.met.V.Vault.held_is told mid export (kept.same ∙ c.requires.begun))
     c.write_packets-written.ensures.written kept.later c.end-ended.ensures.later c.write_packets-written.ensures.cause c.end-ended.ensures.cause)
 
 pub returns-clause-file : goal.returns-clause-file
@@ -25,7 +26,7 @@ returns-clause-file g c =
     let kept = c.write_packets-written.ensures.kept in
     let export = string_bytes job.script.export in
     λ told. (
-      V.held mid,
-      c.end-ended.ensures.files told export ∙ g.met.V.Vault.held_is told mid export (kept.same ∙ c.requires.begun),
-      partial_written (V.held mid) (view job.script) job.bytes.items job.index V.tells c.write_packets-written.result c.write_packets-written.ensures.written told,
+      (V.seen mid).held,
+      ap (λ (of : List ℕ → Option (List ℕ)). of export) (c.end-ended.ensures.files told) ∙ g.met.V.Vault.held_is told mid export (kept.same ∙ c.requires.begun),
+      partial_written (V.seen mid).held (view job.script) job.bytes.items job.index (IsTrue V.tells) c.write_packets-written.result c.write_packets-written.ensures.written told,
     )

@@ -1,3 +1,4 @@
+use Rattle.std.specs.Prelude.{IsTrue}
 use Rattle.std.proofs.Common.{◌≡◌, map, take}
 use Rattle.tl_ports.specs.Outside.{KeepsBegun}
 use Rattle.mkv_write.specs.Writing.{put_of}
@@ -9,7 +10,7 @@ invariant-loop-place g l =
     let V = g.V.Vault in
     record {
       given : l.writer ≡ with_packets l.fn.writer (map (bytes_at l.bytes) (take l.place-index l.places));
-      held : V.tells → V.held l.vault ≡ put_of l.writer;
-      kept : KeepsBegun V.tells V.begun V.file V.faults l.fn.vault l.vault;
-      calm : V.faults l.vault ≡ V.faults l.fn.vault;
+      held : IsTrue V.tells → (V.seen l.vault).held ≡ put_of l.writer;
+      kept : KeepsBegun V.tells (V.seen l.fn.vault) (V.seen l.vault);
+      calm : (V.seen l.vault).faults ≡ (V.seen l.fn.vault).faults;
     }

@@ -1,3 +1,4 @@
+use Rattle.std.specs.Prelude.{IsTrue}
 use Rattle.std.proofs.Common.{ℕ, List, [], ◌∷◌, Ok, Err, subst}
 use Rattle.timeline_app.specs.Reading.{view}
 use Rattle.timeline_app.specs.Lines.{asked_line}
@@ -15,12 +16,12 @@ returns-in-Ok-say_ending-clause-plays g c =
     let mid = c.say-asked.new.out in
     let new = c.say_ending.new.out in
     let ending = c.export-ending.result in
-    let asked : Says O.tells (O.pieces old) (O.pieces mid) (asked_line ∷ []) (O.faults old, O.faults mid) (Ok tt) =
-    subst (λ (text : List ℕ). Says O.tells (O.pieces old) (O.pieces mid) (text ∷ []) (O.faults old, O.faults mid) (Ok tt)) c.asked_line.ensures c.in-Ok.ensures.said in
+    let asked : Says (IsTrue O.tells) (O.seen old).pieces (O.seen mid).pieces (asked_line ∷ []) ((O.seen old).faults, (O.seen mid).faults) (Ok tt) =
+    subst (λ (text : List ℕ). Says (IsTrue O.tells) (O.seen old).pieces (O.seen mid).pieces (text ∷ []) ((O.seen old).faults, (O.seen mid).faults) (Ok tt)) c.asked_line.ensures c.in-Ok.ensures.said in
     rw c.ending_status.ensures
-    (export_ended V.tells (V.faults c.args.vault.now, V.faults vault) (V.file c.args.vault.now) (V.file vault) O.tells (O.faults old, O.faults new) (O.pieces old) (O.pieces new)
+    (export_ended (IsTrue V.tells) ((V.seen c.args.vault.now).faults, (V.seen vault).faults) (V.seen c.args.vault.now).file (V.seen vault).file (IsTrue O.tells) ((O.seen old).faults, (O.seen new).faults) (O.seen old).pieces (O.seen new).pieces
     asked_lines (view job.script) job.bytes.items job.index ending c.export-ending.ensures.ended
-    (says_both O.tells (O.pieces old) (O.pieces mid) (O.pieces new) (asked_line ∷ []) (ending_line ending ∷ []) (O.faults old) (O.faults mid) (O.faults new) (Ok tt) asked c.in-Ok-say_ending.ensures.said)
+    (says_both (IsTrue O.tells) (O.seen old).pieces (O.seen mid).pieces (O.seen new).pieces (asked_line ∷ []) (ending_line ending ∷ []) (O.seen old).faults (O.seen mid).faults (O.seen new).faults (Ok tt) asked c.in-Ok-say_ending.ensures.said)
     c.export-ending.ensures.file c.export-ending.ensures.others)
 
 pub returns-in-Err-clause-plays : goal.returns-in-Err-clause-plays
@@ -33,12 +34,12 @@ returns-in-Err-clause-plays g c =
     let new = c.say-asked.new.out in
     let ending = c.export-ending.result in
     let fault = c.in-Err.fault in
-    let faults : ℕ × ℕ = (O.faults old, O.faults new) in
-    let asked : Says O.tells (O.pieces old) (O.pieces new) (asked_line ∷ []) faults (Err fault) =
-    subst (λ (text : List ℕ). Says O.tells (O.pieces old) (O.pieces new) (text ∷ []) faults (Err fault)) c.asked_line.ensures c.in-Err.ensures.said in
-    let both = says_first O.tells (O.pieces old) (O.pieces new) (asked_line ∷ []) (ending_line ending ∷ []) faults fault asked in
+    let faults : ℕ × ℕ = ((O.seen old).faults, (O.seen new).faults) in
+    let asked : Says (IsTrue O.tells) (O.seen old).pieces (O.seen new).pieces (asked_line ∷ []) faults (Err fault) =
+    subst (λ (text : List ℕ). Says (IsTrue O.tells) (O.seen old).pieces (O.seen new).pieces (text ∷ []) faults (Err fault)) c.asked_line.ensures c.in-Err.ensures.said in
+    let both = says_first (IsTrue O.tells) (O.seen old).pieces (O.seen new).pieces (asked_line ∷ []) (ending_line ending ∷ []) faults fault asked in
     rw c.fault_status.ensures
-    (export_stopped V.tells (V.faults c.args.vault.now, V.faults vault) (V.file c.args.vault.now) (V.file vault) O.tells faults (O.pieces old) (O.pieces new)
+    (export_stopped (IsTrue V.tells) ((V.seen c.args.vault.now).faults, (V.seen vault).faults) (V.seen c.args.vault.now).file (V.seen vault).file (IsTrue O.tells) faults (O.seen old).pieces (O.seen new).pieces
     asked_lines (view job.script) job.bytes.items job.index ending fault both c.export-ending.ensures.file c.export-ending.ensures.others
     c.export-ending.ensures.ended)
 
@@ -53,11 +54,11 @@ returns-in-Err-say_ending-clause-plays g c =
     let new = c.say_ending.new.out in
     let ending = c.export-ending.result in
     let fault = c.in-Err-say_ending.fault in
-    let faults : ℕ × ℕ = (O.faults old, O.faults new) in
-    let asked : Says O.tells (O.pieces old) (O.pieces mid) (asked_line ∷ []) (O.faults old, O.faults mid) (Ok tt) =
-    subst (λ (text : List ℕ). Says O.tells (O.pieces old) (O.pieces mid) (text ∷ []) (O.faults old, O.faults mid) (Ok tt)) c.asked_line.ensures c.in-Ok.ensures.said in
-    let both = says_both O.tells (O.pieces old) (O.pieces mid) (O.pieces new) (asked_line ∷ []) (ending_line ending ∷ []) (O.faults old) (O.faults mid) (O.faults new) (Err fault) asked c.in-Err-say_ending.ensures.said in
+    let faults : ℕ × ℕ = ((O.seen old).faults, (O.seen new).faults) in
+    let asked : Says (IsTrue O.tells) (O.seen old).pieces (O.seen mid).pieces (asked_line ∷ []) ((O.seen old).faults, (O.seen mid).faults) (Ok tt) =
+    subst (λ (text : List ℕ). Says (IsTrue O.tells) (O.seen old).pieces (O.seen mid).pieces (text ∷ []) ((O.seen old).faults, (O.seen mid).faults) (Ok tt)) c.asked_line.ensures c.in-Ok.ensures.said in
+    let both = says_both (IsTrue O.tells) (O.seen old).pieces (O.seen mid).pieces (O.seen new).pieces (asked_line ∷ []) (ending_line ending ∷ []) (O.seen old).faults (O.seen mid).faults (O.seen new).faults (Err fault) asked c.in-Err-say_ending.ensures.said in
     rw c.fault_status-in-Err-say_ending.ensures
-    (export_stopped V.tells (V.faults c.args.vault.now, V.faults vault) (V.file c.args.vault.now) (V.file vault) O.tells faults (O.pieces old) (O.pieces new)
+    (export_stopped (IsTrue V.tells) ((V.seen c.args.vault.now).faults, (V.seen vault).faults) (V.seen c.args.vault.now).file (V.seen vault).file (IsTrue O.tells) faults (O.seen old).pieces (O.seen new).pieces
     asked_lines (view job.script) job.bytes.items job.index ending fault both c.export-ending.ensures.file c.export-ending.ensures.others
     c.export-ending.ensures.ended)

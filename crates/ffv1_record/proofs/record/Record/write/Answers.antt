@@ -13,7 +13,7 @@ returns-clause-bytes c =
     rw (← c.self.view_is)
     (bytes_of_fields i.coder_type i.table i.chroma i.columns i.rows i.sets.items i.ec i.intra c.len-sets.result c.start-fields.result c.coding.new.self c.planes.new.self c.grid.new.self c.sets.new.self c.ending.new.self c.in_ok-bytes.bytes.items c.put_parity.new.bytes.items
     (c.len-sets.ensures ∙ sym c.as_slice.ensures.len ∙ ap length c.as_slice.ensures.value)
-    (c.start-fields.ensures ∙ ap (λ t. sink (started t) fresh) c.usual-usual.ensures.table)
+    (c.start-fields.ensures ∙ ap (λ t. sink (started t) fresh) c.default_table-default.ensures.table)
     c.in_ok-coding.ensures c.in_ok-planes.ensures c.in_ok-grid.ensures
     (c.in_ok-sets.ensures ∙ ap (wrote_sets c.grid.new.self) c.as_slice.ensures.value)
     c.in_ok-ending.ensures c.in_ok-bytes.ensures c.in_ok-put_parity.ensures)

@@ -34,7 +34,7 @@ returns-in_err-reserve-2-clause-put g c =
 pub returns-in_err-given-clause-put : goal.returns-in_err-given-clause-put
 returns-in_err-given-clause-put g c =
     puts_err _ _ _ _ c.from_residual-in_err-given.ensures.0
-    (λ t. subst (λ (x : List ℕ). IsPrefix (g.V.Vault.held c.put_full_cluster.new.vault) x) (held_then c.self.inside c.args.self.now _ _ _ c.args.packet.now c.self.view_is c.self.invariant c.requires.last c.cluster_time-time.ensures c.block_time-block_time.ensures (c.requires.held t)) (c.in_err-given.ensures.put t))
+    (λ t. subst (λ (x : List ℕ). IsPrefix (g.V.Vault.seen c.put_full_cluster.new.vault).held x) (held_then c.self.inside c.args.self.now _ _ _ c.args.packet.now c.self.view_is c.self.invariant c.requires.last c.cluster_time-time.ensures c.block_time-block_time.ensures (c.requires.held t)) (c.in_err-given.ensures.put t))
 
 pub invariant_of-self-2 : goal.invariant_of-self-2
 invariant_of-self-2 g c =

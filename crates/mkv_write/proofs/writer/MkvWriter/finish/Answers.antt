@@ -27,7 +27,7 @@ pub returns-in_err-put-clause-put : goal.returns-in_err-put-clause-put
 returns-in_err-put-clause-put g c =
     let points : points_of c.deref.result.now ≡ points_of c.in_ok-all.all.items = ap points_of c.deref.ensures.value in
     puts_err _ _ _ _ c.from_residual-in_err-put.ensures.0
-    (λ t. subst (λ (x : List ℕ). IsPrefix (g.V.Vault.held c.put.new.vault) x) (held_then c.args.self _ _ _ (c.in_ok-all.ensures.put t) (c.deref-2.ensures.value ∙ c.in_ok-bytes.ensures) (points ∙ c.in_ok-all.ensures.cues)) (c.in_err-put.ensures.put t))
+    (λ t. subst (λ (x : List ℕ). IsPrefix (g.V.Vault.seen c.put.new.vault).held x) (held_then c.args.self _ _ _ (c.in_ok-all.ensures.put t) (c.deref-2.ensures.value ∙ c.in_ok-bytes.ensures) (points ∙ c.in_ok-all.ensures.cues)) (c.in_err-put.ensures.put t))
 
 pub returns-clause-put : goal.returns-clause-put
 returns-clause-put g c =

@@ -29,7 +29,7 @@ pub returns-in_err-put_cluster-clause-put : goal.returns-in_err-put_cluster-clau
 unfolding no_cues
 returns-in_err-put_cluster-clause-put g c =
     puts_err _ _ _ _ c.from_residual.ensures.0
-    (λ t. subst (λ (x : List ℕ). IsPrefix (g.V.Vault.held c.put_cluster.new.vault) x) (held_then c.self.inside c.args.self _ _ _ c.self.view_is c.self.invariant c.if-self-eq0.false c.cluster_time-time.ensures c.deref.ensures.value (c.requires.held t)) (c.in_err-put_cluster.ensures.put t))
+    (λ t. subst (λ (x : List ℕ). IsPrefix (g.V.Vault.seen c.put_cluster.new.vault).held x) (held_then c.self.inside c.args.self _ _ _ c.self.view_is c.self.invariant c.if-self-eq0.false c.cluster_time-time.ensures c.deref.ensures.value (c.requires.held t)) (c.in_err-put_cluster.ensures.put t))
 
 pub returns-in_err-push-clause-put : goal.returns-in_err-push-clause-put
 unfolding no_cues

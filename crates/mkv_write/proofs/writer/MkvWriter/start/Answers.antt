@@ -30,7 +30,7 @@ returns-in_err-lead-clause-put g c =
 pub returns-in_err-put_both-clause-put : goal.returns-in_err-put_both-clause-put
 returns-in_err-put_both-clause-put g c =
     puts_err _ _ _ _ c.from_residual-in_err-put_both.ensures.0
-    (λ t. subst (λ (x : List ℕ). IsPrefix (g.V.Vault.held c.put_both.new.vault) x) (held_then c.args.private.now c.args.width c.args.height c.args.rate _ _ _ (c.requires.empty t) (c.deref.ensures.value ∙ c.in_ok-preamble.ensures) (c.deref-2.ensures.value ∙ c.in_ok-lead.ensures)) (c.in_err-put_both.ensures.put t))
+    (λ t. subst (λ (x : List ℕ). IsPrefix (g.V.Vault.seen c.put_both.new.vault).held x) (held_then c.args.private.now c.args.width c.args.height c.args.rate _ _ _ (c.requires.empty t) (c.deref.ensures.value ∙ c.in_ok-preamble.ensures) (c.deref-2.ensures.value ∙ c.in_ok-lead.ensures)) (c.in_err-put_both.ensures.put t))
 
 pub invariant_of-result : goal.invariant_of-result
 invariant_of-result g c =

@@ -13,7 +13,7 @@ returns-in-Ok-clause-puts c =
     )
 
 pub returns-in-Ok-clause-added : goal.returns-in-Ok-clause-added
-returns-in-Ok-clause-added c = (returns-in-Ok-clause-puts c).1
+returns-in-Ok-clause-added c = λ told. (returns-in-Ok-clause-puts c).1
 
 pub returns-in-Err-Failed-clause-puts : goal.returns-in-Err-Failed-clause-puts
 returns-in-Err-Failed-clause-puts c =
@@ -26,4 +26,4 @@ returns-in-Err-Failed-clause-puts c =
     )
 
 pub returns-in-Err-Failed-clause-added : goal.returns-in-Err-Failed-clause-added
-returns-in-Err-Failed-clause-added c = inr (length c.args.bytes.now / 2, (returns-in-Err-Failed-clause-puts c).1)
+returns-in-Err-Failed-clause-added c = λ told. inr (length c.args.bytes.now / 2, (returns-in-Err-Failed-clause-puts c).1)

@@ -1,0 +1,3 @@
+pub mod Clip
+pub mod Part
+pub mod Build

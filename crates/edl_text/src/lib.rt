@@ -1,0 +1,21 @@
+//! Edit lists of the form CMX 3600: a text is read into its title and its video events, and written again.
+#![tactic(auto)]
+
+mod assembly;
+mod event;
+mod fault;
+mod label;
+mod line;
+mod names;
+mod reading;
+mod row;
+mod writing;
+
+pub use event::{Edl, Event, Events};
+pub use fault::{EdlFault, EdlWhy};
+pub use label::Text;
+pub use reading::read_edl;
+pub use writing::write_edl;
+
+#[cfg(test)]
+mod tests;

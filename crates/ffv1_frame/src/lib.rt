@@ -1,0 +1,9 @@
+//! One frame of FFV1 version 3: its slices, and its picture. RFC 9043 sections 4.4 to 4.9.
+#![tactic(auto)]
+
+mod chain;
+mod cover;
+mod fault;
+mod frame;
+
+pub use fault::DecodeFault;

@@ -1,0 +1,12 @@
+pub mod BitLemmas
+pub mod ReaderLemmas
+pub mod CodeLemmas
+pub mod StateLemmas
+pub mod DifferenceLemmas
+pub mod PutLemmas
+pub mod RunLemmas
+pub mod LineLemmas
+pub mod FitLemmas
+pub mod WriteLemmas
+pub mod Back
+pub mod LineBack

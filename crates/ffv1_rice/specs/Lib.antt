@@ -1,0 +1,11 @@
+pub mod Bits
+pub mod Code
+pub mod Law
+pub mod Lines
+pub mod Pending
+pub mod Place
+pub mod Runs
+pub mod State
+pub mod Tally
+pub mod Window
+pub mod Writer

@@ -1,0 +1,4 @@
+pub mod Blanks
+pub mod Number
+pub mod Timecode
+pub mod Law
