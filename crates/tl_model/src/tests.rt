@@ -49,8 +49,13 @@ fn copies_equal_their_sources(rt: HostRuntime) -> Result<(), Fail> {
     ] {
         entries.push(Entry { pass: 14, act })?;
     }
-    let journal = Journal::from_vec(entries);
-    assert_eq!(rt; journal.copy(rt.alloc())?.as_slice(), journal.as_slice());
+    let copy = Journal::from_vec(entries).copy(rt.alloc())?;
+    let acts = copy.as_slice();
+    assert_eq!(rt; acts.len(), 9);
+    assert_eq!(rt; acts[0].pass, 14);
+    assert!(rt; matches!(&acts[1].act, Act::Edit(Edit::Extract { at: 5, len: 6 })));
+    assert!(rt; matches!(&acts[5].act, Act::File { job: 11 }));
+    assert!(rt; matches!(&acts[8].act, Act::Stop));
     Ok(())
 }
 
