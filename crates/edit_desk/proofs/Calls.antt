@@ -1,6 +1,6 @@
 -- What a call of a board is for its one caller.
-use Rattle.std.proofs.Common.{◌≡◌, ℕ, ◌+◌, ◌<◌, ◌≤◌, false, List, [], ◌∷◌, ◌++◌, length, Option, Some, None, Result, Ok, Err, inl, inr, refl, sym, ap, subst, ◌∙◌}
-use Rattle.std.specs.Prelude.{MatchResult, IsTrue}
+use Rattle.std.proofs.Common.{◌≡◌, ℕ, List, [], Some, Result, Ok, Err, inl, inr, refl, sym, ap, subst, ◌∙◌}
+use Rattle.std.specs.Prelude.{MatchResult}
 use Rattle.std.proofs.lemmas.List.{append-nil}
 use Rattle.tl_model.specs.Media.{Library}
 use Rattle.tl_model.specs.declared.journal.Act.{Act}
@@ -15,12 +15,11 @@ use Rattle.render_core.specs.declared.reply.TakeReply.{TakeReply}
 use Rattle.render_core.specs.declared.reply.TakeReply.TheVariants as takes
 use Rattle.render_core.specs.Board as board
 use Rattle.render_core.specs.Board.{BoardOf, CallAs, IsSame, HasRoom, Adds, Makes, Refuses, Does, Pays, Claims, of_file, of_take}
-use Rattle.render_core.specs.Calls.{CallOf}
 use Rattle.render_core.specs.Claim.{ClaimOf}
-use Rattle.render_core.specs.Step.{Reply, need, reply}
+use Rattle.render_core.specs.Step.{Reply, need}
 use Rattle.render_core.specs.declared.reply.ShowReply.{ShowReply}
 use Rattle.edit_desk.specs.Alone.{desk_of, Renders}
-use Rattle.edit_desk.specs.Desk.{FixedOf, DeskOf, ActAs, Learns, Enters, IsFull, Answers, Finds, Takes, Files, Shows, with_render, state_of}
+use Rattle.edit_desk.specs.Desk.{FixedOf, DeskOf, Learns, Enters, IsFull, Answers, Finds, Takes, Files, Shows, with_render, state_of}
 
 module _ {M F : Type 0} (library : M → Library F) where
   nothing : (d : DeskOf M (Unit {0})) → Learns d d

@@ -1,15 +1,15 @@
 -- What a caller hears composes.
-use Rattle.std.proofs.Common.{◌≡◌, ℕ, ◌+◌, cond, Bool, true, List, [], ◌∷◌, ◌++◌, length, refl, sym, ap, subst, ◌∙◌, arith}
+use Rattle.std.proofs.Common.{◌≡◌, ℕ, ◌+◌, cond, Bool, true, List, [], ◌∷◌, ◌++◌, length, sym, ap, subst, ◌∙◌, arith}
 use Rattle.std.specs.Prelude.{◌==◌}
 use Rattle.std.proofs.lemmas.Bool.Decides.{nat_tests}
-use Rattle.std.proofs.lemmas.List.{append_assoc, append-nil}
+use Rattle.std.proofs.lemmas.List.{append_assoc}
 use Rattle.std.proofs.lemmas.List.Elements.{filter-append}
 use Rattle.tl_model.specs.Media.{Library}
 use Rattle.tl_model.specs.declared.journal.Act.{Act}
 use Rattle.tl_model.specs.declared.journal.Entry.{Entry}
-use Rattle.render_core.specs.State.{State, start}
-use Rattle.render_core.specs.Step.{Setup, Reply, reply, after, state_after}
-use Rattle.render_core.specs.Calls.{CallOf, calls_from, calls_of, own, own_calls}
+use Rattle.render_core.specs.State.{start}
+use Rattle.render_core.specs.Step.{Reply, reply}
+use Rattle.render_core.specs.Calls.{CallOf, calls_from, calls_of, own_calls}
 use Rattle.render_core.proofs.Journals.{calls-append, own_calls-others}
 use Rattle.edit_desk.specs.Desk.{FixedOf, DeskOf, Learns, Enters, Hears, setup_of, state_of, heard}
 

@@ -7,7 +7,7 @@ use Rattle.render_core.specs.declared.reply.Full.TheVariants as full
 use Rattle.render_core.specs.declared.reply.ShowReply.{ShowReply}
 use Rattle.render_core.specs.Board.{BoardOf, of_show}
 use Rattle.render_core.specs.Step.{Reply, Render}
-use Rattle.edit_desk.specs.Desk.{FixedOf, DeskOf, with_render}
+use Rattle.edit_desk.specs.Desk.{DeskOf, with_render}
 
 -- Caller 0 has seen the whole journal.
 abbrev pub desk_of : {M : Type 0} → BoardOf M → DeskOf M (Unit {0})

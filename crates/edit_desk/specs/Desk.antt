@@ -1,12 +1,8 @@
 -- What a caller knows of an editing core, and what a call adds to that.
-use Rattle.std.specs.Prelude.{◌≡◌, ℕ, ◌+◌, ◌<◌, ◌≤◌, ◌==◌, false, List, [], ◌∷◌, ◌++◌, length, slice_get, Option, Some, None, IsTrue, Result, Ok, Err, ◌⊎◌}
+use Rattle.std.specs.Prelude.{◌≡◌, ℕ, ◌+◌, ◌<◌, ◌≤◌, false, List, [], ◌∷◌, ◌++◌, length, None, IsTrue, Result, Ok, Err, ◌⊎◌}
 use Rattle.std.specs.List.{position}
 use Rattle.tl_limits.specs.Limits.{IsJournalLimit}
-use Rattle.tl_model.specs.Cells.{Cell, cells, recipes}
-use Rattle.tl_model.specs.Media.{Library, RenderedOf}
-use Rattle.tl_model.specs.declared.edit.Edit.{Edit}
-use Rattle.tl_model.specs.declared.edit.EditReply.{EditReply}
-use Rattle.tl_model.specs.declared.fault.Ending.{Ending}
+use Rattle.tl_model.specs.Media.{Library}
 use Rattle.tl_model.specs.declared.journal.Act.{Act}
 use Rattle.tl_model.specs.declared.journal.Act.TheVariants as act
 use Rattle.tl_model.specs.declared.journal.Entry.{Entry}
@@ -17,14 +13,13 @@ use Rattle.render_core.specs.declared.reply.ClaimReply.{ClaimReply}
 use Rattle.render_core.specs.declared.reply.ClaimReply.TheVariants as claims
 use Rattle.render_core.specs.declared.reply.FileReply.{FileReply}
 use Rattle.render_core.specs.declared.reply.ShowReply.{ShowReply}
-use Rattle.render_core.specs.declared.reply.ShowReply.TheVariants as show
 use Rattle.render_core.specs.declared.reply.TakeReply.{TakeReply}
 use Rattle.render_core.specs.declared.reply.TakeReply.TheVariants as takes
-use Rattle.render_core.specs.Board.{CallAs, of_edit, of_want, of_cancel, of_file, of_release, of_play, of_show, of_ask, of_take, of_done}
+use Rattle.render_core.specs.Board.{of_file, of_show, of_take}
 use Rattle.render_core.specs.Calls.{CallOf, calls_of, own, own_calls}
 use Rattle.render_core.specs.Claim.{ClaimOf}
-use Rattle.render_core.specs.Export.{ExportJobOf, is_untaken}
-use Rattle.render_core.specs.State.{State, owed, is_queued, Holds, HoldsExport}
+use Rattle.render_core.specs.Export.{is_untaken}
+use Rattle.render_core.specs.State.{State, owed, is_queued}
 use Rattle.render_core.specs.Step.{Setup, IsJournal, need, reply, state_after, picture_of}
 use Rattle.render_core.specs.Step.{Reply, Edited, Wanted, Cancelled, PastEnd, Claimed, Filed, Released, Closed, Picture, Fault, Pending, Render, Asked, EmptyTimeline, Taken, Silent}
 

@@ -5,7 +5,7 @@ ghost use Rattle.tl_limits.specs.Limits.{IsJournalLimit};
 ghost use Rattle.tl_model.specs.Media.{CanRender, outcome_of};
 ghost use Rattle.render_core.specs.Board.{AtRender, of_show};
 ghost use Rattle.render_core.specs.Step.{picture_of};
-ghost use Rattle.edit_desk.specs.Desk.{DeskOf, IsDesk};
+ghost use Rattle.edit_desk.specs.Desk.{DeskOf, IsDesk, state_of};
 ghost use Rattle.edit_desk.specs.Alone.{Renders};
 
 use crate::desk::Desk;
@@ -52,6 +52,14 @@ impl<M: Media + Drop, L: Lane> Alone<M, L> {
     {
         let (board, stopper) = Board::start(alloc, &media, cache, limit)?;
         Ok((Alone { media, board }, stopper))
+    }
+
+    /// Whether the session was stopped. The caller's number is 0.
+    pub fn is_stopped(&self) -> bool
+        ensures stopped { result ≡ (state_of M.library self.now).is_stopped }
+        ensures number { self.now.fixed.number ≡ 0 }
+    {
+        self.board.is_stopped()
     }
 
     /// The journal, by move. It is legal, and within the limit.

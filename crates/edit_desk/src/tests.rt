@@ -5,10 +5,15 @@ ghost use Rattle.tl_model.specs.Media.{CanRender};
 ghost use Rattle.render_core.specs.State.{Holds};
 ghost use Rattle.edit_desk.specs.Desk.{state_of};
 
+mod blanks;
+
+use crate::alone::Alone;
 use crate::desk::Desk;
-use render_core::{Claim, ClaimReply, TakeReply};
+use blanks::Blanks;
+use render_core::{AskReply, Claim, ClaimReply, Stopper, TakeReply};
 use std::alloc::Global;
-use tl_model::Ending;
+use time_list::ListLane;
+use tl_model::{Edit, EditReply, Ending, Name, Side};
 
 /// Gives a claim back. Nothing was filed.
 fn give_back<D: Desk>(desk: &mut D, claim: Claim) -> bool
@@ -68,4 +73,35 @@ fn export<D: Desk>(desk: &mut D, turns: u32, ending: Ending)
             TakeReply::Stopped { len: _ } => {}
         }
     }
+}
+
+/// Three black frames have one recipe, and so one job. The journal has the edit, the want, the claim, its result, three
+/// plays, the ask, the take, the end and the stop.
+#[test]
+fn a_session_alone_is_journalled(rt: HostRuntime) {
+    let started: (Alone<Blanks, ListLane>, Stopper) = Alone::start(
+        rt.alloc(),
+        Blanks,
+        4,
+        100,
+    ).expect(&rt, "memory");
+    let (mut desk, stopper) = started;
+    let edit = Edit::Insert {
+        at: 0,
+        take: Side::Black,
+        len: 3,
+    };
+    assert!(rt; edit.is_well_formed());
+    let edited = desk.edit(rt.alloc(), &edit).expect(&rt, "room");
+    assert_eq!(rt; edited, EditReply::Ok { len: 3 });
+    work(&mut desk, rt.alloc(), 3);
+    let text = String::from_str(rt.alloc(), "o.mkv").expect(&rt, "memory");
+    let asked = desk
+        .ask_export(rt.alloc(), &Name::from_text(text))
+        .expect(&rt, "room");
+    assert_eq!(rt; asked, AskReply::Asked { export: 1 });
+    export(&mut desk, 2, Ending::Done { frames: 3 });
+    assert!(rt; !desk.is_stopped());
+    desk.stop(stopper);
+    assert_eq!(rt; desk.finish().as_slice().len(), 11);
 }

@@ -16,7 +16,7 @@ use Rattle.tl_model.specs.Cells.{recipes, is_among}
 use Rattle.edit_undo.specs.History.{History, edit_outcome, undo_outcome, redo_outcome}
 use Rattle.render_core.specs.declared.job.Job.{Job}
 use Rattle.render_core.specs.Export.{is_untaken}
-use Rattle.render_core.specs.State.{State, start, is_open, is_queued, with_holder, without_holder, with_result, close_if, update, has_open, new_job, want_one, want_all, range, put_first, Holds}
+use Rattle.render_core.specs.State.{State, start, is_open, is_queued, with_holder, without_holder, with_result, close_if, update, has_open, want_one, want_all, range, put_first, Holds}
 use Rattle.render_core.specs.Step.{Setup, IsLegal, step, after, state_after, AreLegal, IsJournal, is_past, is_empty, with_history, jobs_after_want, after_claim, after_file, after_play, new_export, after_take}
 use Rattle.render_core.specs.Claim.{ClaimOf, EndsJob, EndsNone}
 use Rattle.render_core.specs.Parts.{MachineOf, is_by, is_held_by}

@@ -1,10 +1,10 @@
 -- A taken export stays taken until its end is entered. Only caller 0 stops a session.
-use Rattle.std.proofs.Common.{◌≡◌, ◌≢◌, ◌≤◌, ℕ, ◌+◌, ◌-◌, cond, Bool, true, false, ◌&&◌, List, [], ◌∷◌, ◌++◌, length, take, map, Option, Some, None, Result, Ok, Err, refl, sym, ap, subst, ◌∙◌, arith}
+use Rattle.std.proofs.Common.{◌≡◌, ◌≢◌, ℕ, ◌+◌, ◌-◌, cond, Bool, true, false, List, [], ◌∷◌, ◌++◌, length, take, Option, Some, None, Result, Ok, Err, refl, sym, ap, subst, ◌∙◌, arith}
 use Rattle.std.specs.Prelude.{slice_get, ◌==◌}
 use Rattle.std.specs.List.{position}
 use Rattle.std.proofs.lemmas.Bool.Decides.{nat_tests}
 use Rattle.std.proofs.lemmas.List.Quantifiers.{position-Some}
-use Rattle.std.proofs.lemmas.Option.{get_or_from_slice_get, same_Some}
+use Rattle.std.proofs.lemmas.Option.{get_or_from_slice_get}
 use Rattle.tl_model.specs.declared.recipe.Recipe.{Recipe}
 use Rattle.tl_model.specs.declared.edit.EditReply.{EditReply}
 use Rattle.tl_model.specs.declared.journal.Act.{Act}
@@ -20,7 +20,7 @@ use Rattle.render_core.specs.State.{State, start, is_open, is_queued, with_resul
 use Rattle.render_core.specs.Step.{Setup, IsLegal, step, after, state_after, AreLegal, IsJournal, is_past, is_empty, with_history, jobs_after_want, jobs_after_cancel, after_claim, after_file, after_play, new_export, after_take, Reply, Taken, place_of, take_reply}
 use Rattle.render_core.specs.Calls.{own}
 use Rattle.render_core.specs.Waiting.{Took}
-use Rattle.render_core.specs.Claim.{EndsJob, EndsExport, EndsNone}
+use Rattle.render_core.specs.Claim.{EndsExport, EndsNone}
 use Rattle.render_core.proofs.Claims.{update_other, at_push, at_update}
 use Rattle.render_core.proofs.Journals.{legal_rest, after_rest}
 

@@ -11,7 +11,7 @@ use Rattle.tl_model.specs.declared.journal.Entry.{Entry}
 use Rattle.render_core.specs.State.{State, start, owed, Holds, HoldsExport}
 use Rattle.render_core.specs.Step.{Setup, Reply, IsLegal, need, step, reply, after, state_after, AreLegal, IsJournal}
 use Rattle.render_core.specs.Parts.{MachineOf, in_state, setup_at}
-use Rattle.render_core.specs.Board.{BoardOf, CallAs, setup_of, state_of, IsSame, HasRoom, Adds, Makes, Refuses, Does, Pays, Ledger, IsBoard, told_by}
+use Rattle.render_core.specs.Board.{BoardOf, CallAs, state_of, IsSame, HasRoom, Adds, Makes, Refuses, Does, Pays, Ledger, IsBoard, told_by}
 use Rattle.render_core.specs.declared.reply.Full.{Full}
 use Rattle.render_core.proofs.Owed.{owed-step}
 

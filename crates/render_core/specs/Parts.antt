@@ -1,13 +1,11 @@
 -- What the parts of the machine's code keep and answer.
-use Rattle.std.specs.Prelude.{◌≡◌, ℕ, ◌+◌, ◌<◌, ◌≤◌, not, ◌&&◌, ◌==◌, Bool, true, false, All, List, [], ◌∷◌, map, length, slice_get, Option, Some, None, Result, Ok, Err}
+use Rattle.std.specs.Prelude.{◌≡◌, ℕ, ◌<◌, ◌≤◌, not, ◌&&◌, ◌==◌, Bool, true, false, List, [], ◌∷◌, map, length, slice_get, Option, Some, None, Result, Ok, Err}
 use Rattle.std.specs.List.{count_by, remove}
 use Rattle.tl_model.specs.Media.{Library, CanRender, RenderedOf}
 use Rattle.tl_model.specs.Recipe.{same_recipe}
-use Rattle.tl_model.specs.Segment.{IsSegment}
 use Rattle.tl_model.specs.Sound.{IsSound}
 use Rattle.tl_model.specs.declared.journal.Act.{Act}
 use Rattle.tl_model.specs.declared.recipe.Recipe.{Recipe}
-use Rattle.tl_model.specs.declared.segment.Segment.{Segment}
 use Rattle.tl_model.specs.declared.edit.EditReply.{EditReply}
 use Rattle.tl_model.specs.declared.edit.EditReply.TheVariants as answer
 use Rattle.tl_model.specs.Cells.{Cell, recipes, is_among}

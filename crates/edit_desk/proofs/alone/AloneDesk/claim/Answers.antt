@@ -1,6 +1,4 @@
-use Rattle.std.proofs.Common.{refl, subst}
-use Rattle.tl_model.specs.declared.journal.Act.TheVariants as act
-use Rattle.render_core.specs.Board.{Claims}
+use Rattle.std.proofs.Common.{subst}
 use Rattle.edit_desk.specs.Desk.{DeskOf, Finds}
 use Rattle.edit_desk.specs.Alone.{desk_of}
 use Rattle.edit_desk.proofs.Calls.{claims_finds}

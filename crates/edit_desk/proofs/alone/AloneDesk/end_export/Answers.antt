@@ -1,4 +1,4 @@
-use Rattle.std.proofs.Common.{refl, subst}
+use Rattle.std.proofs.Common.{subst}
 use Rattle.tl_model.specs.declared.journal.Act.TheVariants as act
 use Rattle.render_core.specs.Board.{of_done}
 use Rattle.edit_desk.specs.Desk.{DeskOf, Enters}

@@ -1,4 +1,4 @@
-use Rattle.std.proofs.Common.{◌≡◌, ◌≤◌, ◌++◌, ◌∷◌, [], ◌+◌, ◌-◌, ℕ, refl, subst, arith, length}
+use Rattle.std.proofs.Common.{◌≡◌, ◌≤◌, ◌++◌, ◌∷◌, [], ◌+◌, ℕ, refl, subst, arith, length}
 use Rattle.std.specs.Prelude.{vec_len, vec_capacity}
 use Rattle.tl_model.specs.Cells.{cells}
 use Rattle.tl_model.specs.declared.journal.Act.TheVariants as act

@@ -1,6 +1,5 @@
-use Rattle.std.proofs.Common.{◌≡◌, ◌≤◌, ◌++◌, ◌∷◌, [], ◌+◌, ◌-◌, ℕ, refl, subst, arith, length}
+use Rattle.std.proofs.Common.{◌≡◌, ◌≤◌, ◌++◌, ◌∷◌, [], ◌+◌, ℕ, refl, subst, arith, length}
 use Rattle.std.specs.Prelude.{vec_len, vec_capacity}
-use Rattle.tl_model.specs.Cells.{cells}
 use Rattle.tl_model.specs.declared.journal.Act.TheVariants as act
 use Rattle.render_core.specs.Board.{of_release}
 use Rattle.render_core.proofs.Grows.{was_owed, grown_owed, pays, Holds-inside}

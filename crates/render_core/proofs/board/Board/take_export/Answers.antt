@@ -1,4 +1,4 @@
-use Rattle.std.proofs.Common.{◌≡◌, ◌≤◌, ◌+◌, ◌-◌, Option, ℕ, ap, refl, subst, sym, ◌∙◌, arith, length}
+use Rattle.std.proofs.Common.{◌≤◌, ◌+◌, Option, ℕ, ap, refl, subst, sym, ◌∙◌, arith, length}
 use Rattle.std.specs.Prelude.{slice_get, vec_len, vec_capacity}
 use Rattle.tl_model.specs.Cells.{cells}
 use Rattle.tl_model.specs.declared.journal.Act.TheVariants as act

@@ -1,4 +1,4 @@
-use Rattle.std.proofs.Common.{List, ◌<◌, length, set, ap, sym, subst, ◌∙◌}
+use Rattle.std.proofs.Common.{List, set, ap, sym, subst, ◌∙◌}
 use Rattle.std.specs.Prelude.{slice_get}
 use Rattle.std.specs.List.{position}
 use Rattle.std.proofs.lemmas.List.Quantifiers.{position-Some}

@@ -1,8 +1,6 @@
-use Rattle.std.proofs.Common.{List, sym, subst, ap, ◌∙◌}
-use Rattle.tl_model.specs.Cells.{Cell}
+use Rattle.std.proofs.Common.{sym, subst}
 use Rattle.edit_undo.specs.History.{redo_outcome, IsSoundHistory}
-use Rattle.render_core.specs.State.{State}
-use Rattle.render_core.specs.Parts.{MachineOf, HasOneOpen, AreShown, jobs_after}
+use Rattle.render_core.specs.Parts.{HasOneOpen, AreShown}
 use Rattle.render_core.proofs.Changes.{sound-made, sound-redo, one_open-after, shown-after}
 use Rattle.render_core.proofs.machine.Machine.redo.Goals as goal
 
