@@ -1,7 +1,7 @@
 //! Edit lists in the manner of editing programs, and the segments that they are.
 
 use crate::build;
-use edl_text::{EdlFault, EdlWhy, read_edl};
+use edl_text::{Edl, EdlFault, EdlWhy, read_edl};
 use std::alloc::{AllocError, Global};
 use std::test::Fail;
 use tl_model::{Clips, Mix, Name, Segment, Segments, Side};
@@ -131,13 +131,21 @@ fn are_rows(segments: &[Segment], rows: &[Row]) -> bool {
             .all(|(segment, row)| is_row(segment, row))
 }
 
-/// The segments of a list of few lines over few clips.
+/// A list of few lines.
 #[tactic(auto, using(text_words::proofs::Lining::few_lines))]
-fn segments_of(alloc: Global, clips: &Clips, text: &str) -> Result<Segments, EdlFault> {
-    if text.len() > 10_000 || clips.as_slice().len() > 1_000 {
+fn list_of(alloc: Global, text: &[u8]) -> Result<Edl, EdlFault> {
+    if text.len() > 10_000 {
         return Err(EdlFault::NoMemory);
     }
-    let list = read_edl(alloc, text.as_bytes(), 25)?;
+    read_edl(alloc, text, 25)
+}
+
+/// The segments of a list over few clips.
+fn segments_of(alloc: Global, clips: &Clips, text: &str) -> Result<Segments, EdlFault> {
+    if clips.as_slice().len() > 1_000 {
+        return Err(EdlFault::NoMemory);
+    }
+    let list = list_of(alloc, text.as_bytes())?;
     build(alloc, &list, clips)
 }
 
