@@ -108,16 +108,19 @@ module _ {M K F : Type 0} where
   Finds library old new (Ok (claims.Claimed claim)) = Enters library old new act.Claim (Claimed claim.job claim.recipe)
   Finds library old new (Ok (claims.Stopped len)) = Learns old new × (len ≡ length new.seen) × IsTrue (state_of library new).is_stopped
   Finds library old new (Ok (claims.Idle len)) =
-      Learns old new × (len ≡ length new.seen) × ((state_of library new).is_stopped ≡ false) × (position is_queued (state_of library new).jobs ≡ None)
+      Learns old new × (len ≡ length new.seen) × ((state_of library new).is_stopped ≡ false)
+      × (position is_queued (state_of library new).jobs ≡ None)
   Finds library old new (Err why) = Learns old new × IsFull library new 2 why
 
   -- An export, or the cause for which there is none.
   abbrev pub Takes : (M → Library F) → (old new : DeskOf M K) → TakeReply → Type 0
   Takes library old new (takes.Taken job) = Enters library old new act.Take (of_take job)
   Takes library old new (takes.Stopped len) =
-      Learns old new × (len ≡ length new.seen) × IsTrue (state_of library new).is_stopped × (position is_untaken (state_of library new).exports ≡ None)
+      Learns old new × (len ≡ length new.seen) × IsTrue (state_of library new).is_stopped
+      × (position is_untaken (state_of library new).exports ≡ None)
   Takes library old new (takes.Idle len) =
-      Learns old new × (len ≡ length new.seen) × ((state_of library new).is_stopped ≡ false) × (position is_untaken (state_of library new).exports ≡ None)
+      Learns old new × (len ≡ length new.seen) × ((state_of library new).is_stopped ≡ false)
+      × (position is_untaken (state_of library new).exports ≡ None)
 
   -- A result is filed or comes too late, or memory ran out and claim and result come back.
   abbrev pub Files : {V E : Type 0} → (M → Library F) → (old new : DeskOf M K) → ClaimOf × V → Result FileReply (ClaimOf × V × E) → Type 0
@@ -126,7 +129,8 @@ module _ {M K F : Type 0} where
 
   -- A show is told what the machine replies, but the render of a recipe that isn't filed. Where that render wants memory its entry stays.
   abbrev pub Shows : (M → Library F) → (old new : DeskOf M K) (n : ℕ) → Result (ShowReply F) Full → Type 0
-  Shows library old new n (Ok given) = (told : Reply F) × Enters library old new (act.Show n) told × (of_show given ≡ with_render (library old.fixed.library) told)
+  Shows library old new n (Ok given) = (told : Reply F) × Enters library old new (act.Show n) told
+      × (of_show given ≡ with_render (library old.fixed.library) told)
   Shows library old new n (Err (full.JournalFull len owing)) = Learns old new × IsFull library new 1 (full.JournalFull len owing)
   Shows library old new n (Err full.NoMemory) =
       (Learns old new × IsFull library new 1 full.NoMemory) ⊎ ((recipe : Recipe) × Enters library old new (act.Show n) (Render recipe))

@@ -47,7 +47,8 @@ impl<M: Media + Drop, L: Lane> Alone<M, L> {
     ) -> Result<(Alone<M, L>, Stopper), AllocError>
         requires cache { 1 ≤ cache }
         requires limit { IsJournalLimit limit }
-        ensures fixed { IfOk result (λ made. made.0.fixed ≡ record { number = 0; library = media; cache = cache; limit = limit; kept = tt }) }
+        ensures fixed { IfOk result
+            (λ made. made.0.fixed ≡ record { number = 0; library = media; cache = cache; limit = limit; kept = tt }) }
         ensures seen { IfOk result (λ made. made.0.seen ≡ []) }
     {
         let (board, stopper) = Board::start(alloc, &media, cache, limit)?;

@@ -66,12 +66,14 @@ pub trait Desk {
 
     /// Cancels the wanted ones of `len` frames from `first` on.
     fn cancel(&mut self, first: u32, len: u32) -> Result<CancelReply, Full>
-        ensures { Answers Self.Lib.library (desk self.old) (desk self.new) (record { act = act.Cancel first len; view = of_cancel }) result };
+        ensures { Answers Self.Lib.library (desk self.old) (desk self.new)
+            (record { act = act.Cancel first len; view = of_cancel }) result };
 
     /// Takes the lowest queued job, whose recipe can be rendered.
     fn claim(&mut self) -> Result<ClaimReply, Full>
         ensures found { Finds Self.Lib.library (desk self.old) (desk self.new) result }
-        ensures held { IfClaimed result (λ claim. Holds (state_of Self.Lib.library (desk self.new)) (desk self.new).fixed.number claim.job claim.recipe) }
+        ensures held { IfClaimed result
+            (λ claim. Holds (state_of Self.Lib.library (desk self.new)) (desk self.new).fixed.number claim.job claim.recipe) }
         ensures renders { IfClaimed result (λ claim. CanRender (Self.Lib.library (desk self.new).fixed.library) claim.recipe) };
 
     /// Ends a claim with its result.
@@ -83,7 +85,8 @@ pub trait Desk {
         requires held { Holds (state_of Self.Lib.library (desk self.old)) (desk self.old).fixed.number claim.job claim.recipe }
         requires rendered { made rendered ≡ record { recipe = claim.recipe; library = (desk self.old).fixed.library } }
         ensures told { Files Self.Lib.library (desk self.old) (desk self.new) (claim, rendered) result }
-        ensures held { MatchResult result (λ _. Unit {0}) (λ back. Holds (state_of Self.Lib.library (desk self.new)) (desk self.new).fixed.number claim.job claim.recipe) };
+        ensures held { MatchResult result (λ _. Unit {0})
+            (λ back. Holds (state_of Self.Lib.library (desk self.new)) (desk self.new).fixed.number claim.job claim.recipe) };
 
     /// Gives a claim back. It can't be refused.
     fn release(&mut self, claim: Claim) -> ReleaseReply
@@ -111,12 +114,15 @@ pub trait Desk {
     /// Takes the lowest export that nobody took, whose timeline is sound. It can't be refused.
     fn take_export(&mut self) -> TakeReply
         ensures found { Takes Self.Lib.library (desk self.old) (desk self.new) result }
-        ensures held { IfTaken result (λ job. HoldsExport (state_of Self.Lib.library (desk self.new)) (desk self.new).fixed.number job.export job.name (cells job.segments)) }
+        ensures held { IfTaken result
+            (λ job. HoldsExport (state_of Self.Lib.library (desk self.new)) (desk self.new).fixed.number job.export job.name
+            (cells job.segments)) }
         ensures sound { IfTaken result (λ job. IsSound (Self.Lib.library (desk self.new).fixed.library) (cells job.segments)) };
 
     /// Ends an export that the caller took. It can't be refused.
     fn end_export(&mut self, job: ExportJob, ending: Ending)
-        requires { HoldsExport (state_of Self.Lib.library (desk self.old)) (desk self.old).fixed.number job.export job.name (cells job.segments) }
+        requires { HoldsExport (state_of Self.Lib.library (desk self.old)) (desk self.old).fixed.number job.export job.name
+            (cells job.segments) }
         ensures { Enters Self.Lib.library (desk self.old) (desk self.new) (act.End job.export ending) (of_done result) };
 
     /// Notes a number of turns of work.

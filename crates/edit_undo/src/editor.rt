@@ -111,8 +111,10 @@ fn move_back<L: Lane>(
 ) -> Result<(), AllocError>
     requires some { 0 < vec_len from.old }
     requires stacks { AreStacks (record { line = L.cells lane.old; undos = from.old.items; redos = onto.old.items }) }
-    ensures ok { OnOk result (Moves (record { line = L.cells lane.old; undos = from.old.items; redos = onto.old.items }) (record { line = L.cells lane.new; undos = from.new.items; redos = onto.new.items })) }
-    ensures err { OnErr result (IsSame (record { line = L.cells lane.old; undos = from.old.items; redos = onto.old.items }) (record { line = L.cells lane.new; undos = from.new.items; redos = onto.new.items })) }
+    ensures ok { OnOk result (Moves (record { line = L.cells lane.old; undos = from.old.items; redos = onto.old.items })
+        (record { line = L.cells lane.new; undos = from.new.items; redos = onto.new.items })) }
+    ensures err { OnErr result (IsSame (record { line = L.cells lane.old; undos = from.old.items; redos = onto.old.items })
+        (record { line = L.cells lane.new; undos = from.new.items; redos = onto.new.items })) }
 {
     onto.reserve(1)?;
     let patch = from.pop().unwrap();
@@ -131,9 +133,12 @@ fn move_back<L: Lane>(
 /// Tells, in a proof, that each call keeps a history of sound timelines one. It does nothing.
 pub fn keeps_sound_history<M: Media>(media: &M, edit: &Edit)
     requires { IsEdit edit.now }
-    ensures edit { (h next : History) → IsSoundHistory (M.library media.now) h → edit_outcome (M.library media.now) edit.now h ≡ Ok next → IsSoundHistory (M.library media.now) next }
-    ensures undo { (h next : History) → IsSoundHistory (M.library media.now) h → undo_outcome h ≡ Ok next → IsSoundHistory (M.library media.now) next }
-    ensures redo { (h next : History) → IsSoundHistory (M.library media.now) h → redo_outcome h ≡ Ok next → IsSoundHistory (M.library media.now) next }
+    ensures edit { (h next : History) → IsSoundHistory (M.library media.now) h → edit_outcome (M.library media.now) edit.now h ≡ Ok next
+        → IsSoundHistory (M.library media.now) next }
+    ensures undo { (h next : History) → IsSoundHistory (M.library media.now) h → undo_outcome h ≡ Ok next
+        → IsSoundHistory (M.library media.now) next }
+    ensures redo { (h next : History) → IsSoundHistory (M.library media.now) h → redo_outcome h ≡ Ok next
+        → IsSoundHistory (M.library media.now) next }
 {
     keeps_sound(media, edit);
 }

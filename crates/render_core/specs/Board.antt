@@ -128,7 +128,8 @@ module _ {M F : Type 0} where
   -- A call adds its entry and is told the machine's reply. One that has no entry leaves the board the same.
   abbrev pub Makes : (M → Library F) → (old new : BoardOf M) → Option (CallOf F) → Type 0
   Makes library old new None = IsSame old new
-  Makes library old new (Some call) = Adds library old new call.pass call.act × (call.told ≡ reply (library old.library) call.act (state_of library old))
+  Makes library old new (Some call) = Adds library old new call.pass call.act
+      × (call.told ≡ reply (library old.library) call.act (state_of library old))
 
   -- A refusal changes nothing. `JournalFull` comes exactly where the entries don't fit, before any want of memory.
   abbrev pub Refuses : (M → Library F) → (old new : BoardOf M) (count : ℕ) → Full → Type 0
@@ -138,7 +139,8 @@ module _ {M F : Type 0} where
 
   -- A call adds its entry and gives the machine's reply, or is refused.
   abbrev pub Does : {R : Type 0} → (M → Library F) → (old new : BoardOf M) → CallAs R F → Result R Full → Type 0
-  Does library old new call (Ok given) = HasRoom library old (need call.act (state_of library old)) × Makes library old new (Some (told_by call given))
+  Does library old new call (Ok given) = HasRoom library old (need call.act (state_of library old))
+      × Makes library old new (Some (told_by call given))
   Does library old new call (Err why) = Refuses library old new (need call.act (state_of library old)) why
 
   -- A call whose entry was owed adds it and gives the machine's reply, out of the room that was kept for it.
@@ -148,17 +150,21 @@ module _ {M F : Type 0} where
 
   -- Room for some entries more, or why there is none.
   abbrev pub MakesRoom : (M → Library F) → (old new : BoardOf M) (count : ℕ) → Result Unit Full → Type 0
-  MakesRoom library old new count (Ok done) = IsSame old new × HasRoom library old count × (count ≤ new.spare) × (count ≤ old.spare → new.spare ≡ old.spare)
-  MakesRoom library old new count (Err (full.JournalFull len owing)) = (new ≡ old) × Refuses library old new count (full.JournalFull len owing)
+  MakesRoom library old new count (Ok done) = IsSame old new × HasRoom library old count × (count ≤ new.spare) × (count ≤ old.spare
+      → new.spare ≡ old.spare)
+  MakesRoom library old new count (Err (full.JournalFull len owing)) = (new ≡ old)
+      × Refuses library old new count (full.JournalFull len owing)
   MakesRoom library old new count (Err full.NoMemory) = Refuses library old new count full.NoMemory × (old.spare < count)
 
   -- A claim takes the lowest queued job; `Stopped` comes exactly where there is a stop, else `Idle` exactly where no job is queued.
   abbrev pub Claims : (M → Library F) → (old new : BoardOf M) (pass : ℕ) → Result ClaimReply Full → Type 0
   Claims library old new pass (Ok (claims.Claimed claim)) =
       HasRoom library old 2 × Makes library old new (Some (record { pass = pass; act = act.Claim; told = Claimed claim.job claim.recipe }))
-  Claims library old new pass (Ok (claims.Stopped len)) = (new ≡ old) × (len ≡ length old.journal) × IsTrue (state_of library old).is_stopped
+  Claims library old new pass (Ok (claims.Stopped len)) = (new ≡ old) × (len ≡ length old.journal)
+      × IsTrue (state_of library old).is_stopped
   Claims library old new pass (Ok (claims.Idle len)) =
-      (new ≡ old) × (len ≡ length old.journal) × ((state_of library old).is_stopped ≡ false) × (position is_queued (state_of library old).jobs ≡ None)
+      (new ≡ old) × (len ≡ length old.journal) × ((state_of library old).is_stopped ≡ false)
+      × (position is_queued (state_of library old).jobs ≡ None)
   Claims library old new pass (Err why) =
       ((state_of library old).is_stopped ≡ false) × IsSome (position is_queued (state_of library old).jobs) × Refuses library old new 2 why
 
@@ -166,9 +172,11 @@ module _ {M F : Type 0} where
   abbrev pub Takes : (M → Library F) → (old new : BoardOf M) (pass : ℕ) → TakeReply → Type 0
   Takes library old new pass (takes.Taken job) = Pays library old new (record { pass = pass; act = act.Take; view = of_take }) job
   Takes library old new pass (takes.Stopped len) =
-      (new ≡ old) × (len ≡ length old.journal) × IsTrue (state_of library old).is_stopped × (position is_untaken (state_of library old).exports ≡ None)
+      (new ≡ old) × (len ≡ length old.journal) × IsTrue (state_of library old).is_stopped
+      × (position is_untaken (state_of library old).exports ≡ None)
   Takes library old new pass (takes.Idle len) =
-      (new ≡ old) × (len ≡ length old.journal) × ((state_of library old).is_stopped ≡ false) × (position is_untaken (state_of library old).exports ≡ None)
+      (new ≡ old) × (len ≡ length old.journal) × ((state_of library old).is_stopped ≡ false)
+      × (position is_untaken (state_of library old).exports ≡ None)
 
 -- What the board keeps beside the machine: its state, the journal, the limit, how many entries are owed, and how many fit.
 pub record Ledger : Type 0 where

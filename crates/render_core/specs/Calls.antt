@@ -17,7 +17,8 @@ entry_of call = record { pass = call.pass; act = call.act }
 abbrev pub calls_from : {F : Type 0} → Setup F → (count : ℕ) → List Entry → State → List (CallOf F)
 calls_from setup count [] s = []
 calls_from setup count (e ∷ es) s =
-    record { pass = e.pass; act = e.act; told = reply setup.library e.act s } ∷ calls_from setup (count + 1) es (step setup (count + 1) e.pass e.act s)
+    record { pass = e.pass; act = e.act; told = reply setup.library e.act s }
+    ∷ calls_from setup (count + 1) es (step setup (count + 1) e.pass e.act s)
 
 abbrev pub calls_of : {F : Type 0} → Setup F → List Entry → List (CallOf F)
 calls_of setup journal = calls_from setup 0 journal start

@@ -1,4 +1,5 @@
--- A library for tests: two clips of ten frames, of which the first fits. A picture is the number of its frame, and frame 9 can't be rendered.
+-- A library for tests: two clips of ten frames, of which the first fits. A picture is the number of its frame, and frame 9 can't be
+-- rendered.
 use Rattle.std.specs.Prelude.{ℕ, ◌==◌, if◌then◌else◌, true, false, List, [], ◌∷◌, Some, Result, Ok, Err}
 use Rattle.tl_model.specs.Media.{Library}
 use Rattle.tl_model.specs.declared.fault.FrameFault.{FrameFault}

@@ -19,7 +19,8 @@ use Rattle.render_core.specs.Step.{Setup, Reply, step, reply}
 -- Where a recipe first stands in a list.
 abbrev pub Places : Recipe → List Recipe → Option ℕ → Type 0
 Places recipe rs None = is_among recipe rs ≡ false
-Places recipe rs (Some i) = (i < length rs) × (is_among recipe rs ≡ true) × (slice_get rs i ≡ Some recipe) × (without recipe rs ≡ remove rs i)
+Places recipe rs (Some i) = (i < length rs) × (is_among recipe rs ≡ true) × (slice_get rs i ≡ Some recipe)
+    × (without recipe rs ≡ remove rs i)
 
 abbrev pub recipes_of : {M : Type 0} → List (RenderedOf M) → List Recipe
 recipes_of results = map (λ r. r.recipe) results
@@ -106,7 +107,8 @@ setup_at library m = record { library = library m.library; cache = m.cache }
 -- The machine takes its step and gives its reply.
 abbrev pub TurnsTo : {M R F : Type 0} → (M → Library F) → TurnAs R F → (old new : MachineOf M) → R → Type 0
 TurnsTo library turn old new given =
-    (new ≡ in_state (step (setup_at library old) turn.at turn.pass turn.act old.state) old) × (turn.view given ≡ reply (library old.library) turn.act old.state)
+    (new ≡ in_state (step (setup_at library old) turn.at turn.pass turn.act old.state) old)
+    × (turn.view given ≡ reply (library old.library) turn.act old.state)
 
 -- Or it wants memory.
 abbrev pub Turns : {M R F E : Type 0} → (M → Library F) → TurnAs R F → (old new : MachineOf M) → Result R E → Type 0

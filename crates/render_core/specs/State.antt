@@ -89,7 +89,9 @@ pub record HoldsExport (s : State) (pass n : ℕ) (name : List ℕ) (line : List
   pub counted : 1 ≤ n
   pub is_export : slice_get s.exports (n - 1) ≡ Some (record { name = name; line = line; stage = stage.Taken pass })
 
--- What holds after every journal: the results are at most as many as the cache holds, and a recipe has an open job or a filed result at most once.
+-- What holds after every journal: the results are at most as many as the cache holds, and a recipe has an open job or a filed result
+-- at most once.
 pub record IsOrderly (cache : ℕ) (s : State) : Type 0 where
   pub few : length s.filed ≤ cache
-  pub once : (recipe : Recipe) → count_by (λ job. is_open job && same_recipe recipe job.recipe) s.jobs + count_by (same_recipe recipe) s.filed ≤ 1
+  pub once : (recipe : Recipe) → count_by (λ job. is_open job && same_recipe recipe job.recipe) s.jobs
+      + count_by (same_recipe recipe) s.filed ≤ 1

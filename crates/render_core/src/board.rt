@@ -42,9 +42,16 @@ impl<M: Media, L: Lane> Model for Board<M, L> {
 
     ghost Value = { BoardOf M };
 
-    ghost view = { λ b. record { library = b.machine.library; cache = b.machine.cache; limit = b.limit; journal = b.journal.items; spare = vec_capacity b.journal - (vec_len b.journal + b.owed) } };
+    ghost view = { λ b. record {
+      library = b.machine.library;
+      cache = b.machine.cache;
+      limit = b.limit;
+      journal = b.journal.items;
+      spare = vec_capacity b.journal - (vec_len b.journal + b.owed);
+    } };
 
-    ghost invariant = { λ b. IsBoard (setup_at M.library b.machine) (record { state = b.machine.state; journal = b.journal.items; limit = b.limit; owing = b.owed; room = vec_capacity b.journal }) };
+    ghost invariant = { λ b. IsBoard (setup_at M.library b.machine)
+        (record { state = b.machine.state; journal = b.journal.items; limit = b.limit; owing = b.owed; room = vec_capacity b.journal }) };
 }
 
 impl<M: Media, L: Lane> Board<M, L> {
@@ -102,8 +109,14 @@ impl<M: Media, L: Lane> Board<M, L> {
     /// Tells, in a proof, that a pass holds its job until it enters the job's end itself, and its export until it enters
     /// the export's end, whatever entries of others come between. It does nothing.
     pub fn claims_last(&self)
-        ensures jobs { (journal more : List Entry) (pass n : ℕ) (recipe : Recipe) → IsJournal (setup_of M.library self.now) (journal ++ more) → Holds (state_after (setup_of M.library self.now) journal) pass n recipe → EndsNone (EndsJob n) pass more → Holds (state_after (setup_of M.library self.now) (journal ++ more)) pass n recipe }
-        ensures exports { (journal more : List Entry) (pass n : ℕ) (name : List ℕ) (line : List Cell) → IsJournal (setup_of M.library self.now) (journal ++ more) → HoldsExport (state_after (setup_of M.library self.now) journal) pass n name line → EndsNone (EndsExport n) pass more → HoldsExport (state_after (setup_of M.library self.now) (journal ++ more)) pass n name line }
+        ensures jobs { (journal more : List Entry) (pass n : ℕ) (recipe : Recipe)
+            → IsJournal (setup_of M.library self.now) (journal ++ more)
+            → Holds (state_after (setup_of M.library self.now) journal) pass n recipe → EndsNone (EndsJob n) pass more
+            → Holds (state_after (setup_of M.library self.now) (journal ++ more)) pass n recipe }
+        ensures exports { (journal more : List Entry) (pass n : ℕ) (name : List ℕ) (line : List Cell)
+            → IsJournal (setup_of M.library self.now) (journal ++ more)
+            → HoldsExport (state_after (setup_of M.library self.now) journal) pass n name line → EndsNone (EndsExport n) pass more
+            → HoldsExport (state_after (setup_of M.library self.now) (journal ++ more)) pass n name line }
     {}
 
     /// Tells, in a proof, that the entries of others end no job and no export of a pass, and that where caller 0 entered
@@ -111,13 +124,16 @@ impl<M: Media, L: Lane> Board<M, L> {
     pub fn others_end_nothing(&self)
         ensures jobs { (more : List Entry) (pass n : ℕ) → own pass more ≡ [] → EndsNone (EndsJob n) pass more }
         ensures exports { (more : List Entry) (pass n : ℕ) → own pass more ≡ [] → EndsNone (EndsExport n) pass more }
-        ensures stop { (journal more : List Entry) → IsJournal (setup_of M.library self.now) (journal ++ more) → own 0 more ≡ [] → (state_after (setup_of M.library self.now) journal).is_stopped ≡ false → (state_after (setup_of M.library self.now) (journal ++ more)).is_stopped ≡ false }
+        ensures stop { (journal more : List Entry) → IsJournal (setup_of M.library self.now) (journal ++ more) → own 0 more ≡ []
+            → (state_after (setup_of M.library self.now) journal).is_stopped ≡ false
+            → (state_after (setup_of M.library self.now) (journal ++ more)).is_stopped ≡ false }
     {}
 
     /// Tells, in a proof, that a list of calls enters its entries in order, where each may come, and that each was told
     /// the machine's reply to its entry. It does nothing.
     pub fn calls_are_entered(&self)
-        ensures { (old new : BoardOf M) (calls : List (Option (CallOf M.Frame))) → Runs M.library old new calls → Journals (setup_of M.library old) old.journal new.journal (entered_calls calls) }
+        ensures { (old new : BoardOf M) (calls : List (Option (CallOf M.Frame))) → Runs M.library old new calls
+            → Journals (setup_of M.library old) old.journal new.journal (entered_calls calls) }
     {}
 
     /// Whether a caller holds the job of a claim.
@@ -173,7 +189,9 @@ fn room_for(journal: &mut Vec<Entry>, owed: u64, limit: u64, need: u64) -> Resul
     requires need { need ≤ 3 }
     requires kept { length journal.old.items + owed ≤ vec_capacity journal.old }
     ensures items { journal.new.items ≡ journal.old.items }
-    ensures room { RoomFor (record { len = length journal.old.items; owing = owed; limit = limit; count = need }) (vec_capacity journal.old) (vec_capacity journal.new) result }
+    ensures room { RoomFor
+        (record { len = length journal.old.items; owing = owed; limit = limit; count = need }) (vec_capacity journal.old)
+        (vec_capacity journal.new) result }
 {
     let len = journal.len() as u64;
     if len + owed + need > limit {

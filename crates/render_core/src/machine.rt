@@ -46,9 +46,20 @@ impl<M: Media, L: Lane> Model for Machine<M, L> {
 
     ghost Value = { MachineOf M };
 
-    ghost view = { λ m. record { library = m.library.value; cache = m.cache; state = record { history = m.editor; jobs = m.jobs; filed = recipes_of m.results; exports = m.exports; is_stopped = m.is_stopped } } };
+    ghost view = { λ m. record {
+      library = m.library.value;
+      cache = m.cache;
+      state = record {
+        history = m.editor;
+        jobs = m.jobs;
+        filed = recipes_of m.results;
+        exports = m.exports;
+        is_stopped = m.is_stopped;
+      };
+    } };
 
-    ghost invariant = { λ m. IsMachine M.library (record { library = m.library.value; history = m.editor; jobs = m.jobs; results = m.results; exports = m.exports }) };
+    ghost invariant = { λ m. IsMachine M.library
+        (record { library = m.library.value; history = m.editor; jobs = m.jobs; results = m.results; exports = m.exports }) };
 }
 
 impl<M: Media, L: Lane> Machine<M, L> {
@@ -181,7 +192,9 @@ impl<M: Media, L: Lane> Machine<M, L> {
     ) -> Result<FileReply, (Claim, Rendered<M>)>
         requires held { IsHeld self.old.state claim }
         requires rendered { rendered ≡ record { recipe = claim.recipe; library = self.old.library } }
-        ensures done { MatchResult result (λ given. TurnsTo M.library (record { at = at; pass = 0; act = act.File claim.job; view = of_file }) self.old self.new given) (λ back. (self.new ≡ self.old) × (back.0 ≡ claim) × (back.1 ≡ rendered)) }
+        ensures done { MatchResult result (λ given. TurnsTo M.library
+            (record { at = at; pass = 0; act = act.File claim.job; view = of_file }) self.old self.new given)
+            (λ back. (self.new ≡ self.old) × (back.0 ≡ claim) × (back.1 ≡ rendered)) }
         ensures open_job { OnErr result (reply (M.library self.old.library) (act.File claim.job) self.old.state ≡ Filed) }
     {
         let Claim { job, recipe } = claim;

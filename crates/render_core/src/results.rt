@@ -47,7 +47,8 @@ impl<M: Media> Results<M> {
     /// The picture or the fault of the result at a place, shared.
     pub(crate) fn shared(&self, place: usize) -> Result<PlayReply<M::Frame>, AllocError>
         requires { place < length self.now }
-        ensures { IfOk result (λ given. (r : RenderedOf M) → slice_get self.now place ≡ Some r → of_play given ≡ picture_of ((M.library r.library).render r.recipe)) }
+        ensures { IfOk result (λ given. (r : RenderedOf M) → slice_get self.now place ≡ Some r
+            → of_play given ≡ picture_of ((M.library r.library).render r.recipe)) }
     {
         shared(&self.items[place])
     }

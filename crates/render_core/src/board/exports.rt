@@ -20,7 +20,8 @@ impl<M: Media, L: Lane> Board<M, L> {
     /// so that these can't be refused. `EmptyTimeline` comes exactly where there is no frame, and needs one entry.
     pub fn ask_export(&mut self, alloc: Global, by: u32, name: &Name) -> Result<AskReply, Full>
         ensures done { Does M.library self.old self.new (record { pass = by; act = act.Ask name.now; view = of_ask }) result }
-        ensures uses { need (act.Ask name.now) (state_of M.library self.old) ≤ self.old.spare → OnOk result (self.new.spare + need (act.Ask name.now) (state_of M.library self.old) ≡ self.old.spare) }
+        ensures uses { need (act.Ask name.now) (state_of M.library self.old) ≤ self.old.spare
+            → OnOk result (self.new.spare + need (act.Ask name.now) (state_of M.library self.old) ≡ self.old.spare) }
     {
         let count = self.machine.ask_need();
         self.ask_with(alloc, by, name, count)
@@ -37,7 +38,8 @@ impl<M: Media, L: Lane> Board<M, L> {
         requires need { count ≡ need (act.Ask name.now) (state_of M.library self.old) }
         requires some { 1 ≤ count }
         requires few { count ≤ 3 }
-        ensures done { MatchResult result (λ given. HasRoom M.library self.old count × Makes M.library self.old self.new (Some (record { pass = by; act = act.Ask name.now; told = of_ask given }))) (λ why. Refuses M.library self.old self.new count why) }
+        ensures done { MatchResult result (λ given. HasRoom M.library self.old count × Makes M.library self.old self.new (Some
+            (record { pass = by; act = act.Ask name.now; told = of_ask given }))) (λ why. Refuses M.library self.old self.new count why) }
         ensures uses { count ≤ self.old.spare → OnOk result (self.new.spare + count ≡ self.old.spare) }
     {
         self.make_room(count)?;

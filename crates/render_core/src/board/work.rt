@@ -53,7 +53,9 @@ impl<M: Media, L: Lane> Board<M, L> {
     ) -> Result<FileReply, (Claim, Rendered<M>, AllocError)>
         requires held { Holds (state_of M.library self.old) by claim.job claim.recipe }
         requires rendered { rendered ≡ record { recipe = claim.recipe; library = self.old.library } }
-        ensures done { MatchResult result (λ given. Pays M.library self.old self.new (record { pass = by; act = act.File claim.job; view = of_file }) given) (λ back. (self.new ≡ self.old) × (back.0 ≡ claim) × (back.1 ≡ rendered)) }
+        ensures done { MatchResult result (λ given. Pays M.library self.old self.new
+            (record { pass = by; act = act.File claim.job; view = of_file }) given) (λ back. (self.new ≡ self.old) × (back.0 ≡ claim)
+            × (back.1 ≡ rendered)) }
         ensures open_job { OnErr result (reply (M.library self.old.library) (act.File claim.job) (state_of M.library self.old) ≡ Filed) }
     {
         let job = claim.job();
@@ -92,7 +94,8 @@ impl<M: Media, L: Lane> Board<M, L> {
         ensures done { Does M.library self.old self.new (record { pass = by; act = act.Play n; view = of_play }) result }
         ensures uses { 1 ≤ self.old.spare → OnOk result (self.new.spare + 1 ≡ self.old.spare) }
         ensures renders { IfPending result (λ recipe. CanRender (M.library self.new.library) recipe) }
-        ensures filed { 1 ≤ self.old.spare → result ≡ Err full.NoMemory → IsTrue (is_filed (slice_get (recipes (state_of M.library self.old).history.line) n) (state_of M.library self.old)) }
+        ensures filed { 1 ≤ self.old.spare → result ≡ Err full.NoMemory
+            → IsTrue (is_filed (slice_get (recipes (state_of M.library self.old).history.line) n) (state_of M.library self.old)) }
     {
         self.make_room(1)?;
         let Ok(reply) = self.machine.play(n) else {
@@ -110,7 +113,8 @@ impl<M: Media, L: Lane> Board<M, L> {
         ensures done { Does M.library self.old self.new (record { pass = by; act = act.Show n; view = of_show }) result }
         ensures uses { 1 ≤ self.old.spare → OnOk result (self.new.spare + 1 ≡ self.old.spare) }
         ensures renders { IfRender result (λ recipe. CanRender (M.library self.new.library) recipe) }
-        ensures filed { 1 ≤ self.old.spare → result ≡ Err full.NoMemory → IsTrue (is_filed (slice_get (recipes (state_of M.library self.old).history.line) n) (state_of M.library self.old)) }
+        ensures filed { 1 ≤ self.old.spare → result ≡ Err full.NoMemory
+            → IsTrue (is_filed (slice_get (recipes (state_of M.library self.old).history.line) n) (state_of M.library self.old)) }
     {
         self.make_room(1)?;
         let Ok(reply) = self.machine.show(n) else {
