@@ -1,0 +1,4 @@
+pub mod Lists
+pub mod Line
+pub mod Word
+pub mod Parsed
