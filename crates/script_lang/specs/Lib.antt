@@ -2,3 +2,4 @@ pub mod Lists
 pub mod Line
 pub mod Word
 pub mod Parsed
+pub mod Sound

@@ -1,5 +1,5 @@
 -- Lines of output: each is its words parted by single blanks, and a line feed.
-use Rattle.std.specs.Prelude.{◌≡◌, ℕ, ◌<◌, ◌^◌, Bool, true, ◌&&◌, nat_lt, IsTrue, List, [], ◌∷◌, ◌++◌, map, flat_map, codes, decimal}
+use Rattle.std.specs.Prelude.{ℕ, Bool, true, ◌&&◌, List, [], ◌∷◌, ◌++◌, map, flat_map, codes, decimal}
 use Rattle.std.specs.List.{list_all, list_any}
 use Rattle.std.specs.Str.{bytes_eq, is_utf8}
 use Rattle.text_words.specs.declared.blanks.Blanks.TheVariants.{SpaceTabReturn}
@@ -79,14 +79,3 @@ is_listed line = list_all is_listed_field (fields line)
 -- A name that is a single word of a line, in UTF-8.
 abbrev pub is_name : List ℕ → Bool
 is_name name = is_utf8 name && (is_word SpaceTabReturn name && is_line name)
-
--- A word that such a line may have.
-abbrev pub is_field : Field → Bool
-is_field (Fixed word) = true
-is_field (Number bits n) = nat_lt n (2 ^ bits)
-is_field (Listed words word) = is_one_of words word
-is_field (Named name) = is_name name
-
--- A line whose numbers fit, whose names are single words, and whose other words are in their lists.
-abbrev pub IsLine : OutLine → Type 0
-IsLine line = IsTrue (list_all is_field (fields line))

@@ -4,6 +4,16 @@
 mod out_line;
 mod parsing;
 mod printing;
+mod reading;
+mod script;
 
 pub use out_line::OutLine;
 pub use printing::put_line;
+pub use reading::read_line;
+pub use script::{
+    BodyLine, BodyLines, Call, ChromaWord, ClipLine, ClipLines, CoderWord, FormatLine, Script,
+    ScriptFault, ScriptRefusal,
+};
+
+#[cfg(test)]
+mod tests;
