@@ -1,0 +1,4 @@
+pub mod Spelling
+pub mod Reread
+pub mod Soundness
+pub mod Again

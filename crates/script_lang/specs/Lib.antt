@@ -1,0 +1,5 @@
+pub mod Lists
+pub mod Line
+pub mod Word
+pub mod Parsed
+pub mod Sound
