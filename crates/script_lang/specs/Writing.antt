@@ -74,4 +74,5 @@ ended_line words = joined words ++ 10 ∷ []
 abbrev pub script_text : Script → List ℕ
 script_text s =
     ended_line (codes "rate" ∷ digits s.rate ∷ [])
-    ++ (flat_map (λ clip. ended_line (clip_words s.rate clip)) s.clips ++ (ended_line (format_words s.format) ++ flat_map (λ line. ended_line (call_words line.call)) s.body))
+    ++ (flat_map (λ clip. ended_line (clip_words s.rate clip)) s.clips
+    ++ (ended_line (format_words s.format) ++ flat_map (λ line. ended_line (call_words line.call)) s.body))

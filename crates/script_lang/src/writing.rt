@@ -283,7 +283,8 @@ fn put_coding(
     columns: u32,
     rows: u32,
 ) -> Result<(), AllocError>
-    ensures { OnOk result (out.new.items ≡ out.old.items ++ 32 ∷ (chroma.now ++ 32 ∷ (coder.now ++ 32 ∷ (digits columns ++ 32 ∷ (digits rows ++ 10 ∷ []))))) }
+    ensures { OnOk result (out.new.items ≡ out.old.items
+        ++ 32 ∷ (chroma.now ++ 32 ∷ (coder.now ++ 32 ∷ (digits columns ++ 32 ∷ (digits rows ++ 10 ∷ []))))) }
 {
     put_text(out, chroma)?;
     put_text(out, coder)?;
@@ -331,8 +332,8 @@ fn put_format(out: &mut Vec<u8>, format: &FormatLine) -> Result<(), AllocError>
     Ok(())
 }
 
-/// The text of a script, of a rate from 1 to 240. Line numbers aside it has all of it: the rate, the clips, each with a timecode, the format,
-/// and the calls.
+/// The text of a script, of a rate from 1 to 240. Line numbers aside it has all of it: the rate, the clips, each with a timecode, the
+/// format, and the calls.
 #[tactic(auto, using(std::proofs::Common::append_assoc))]
 pub fn write_script(alloc: Global, script: &Script) -> Result<Vec<u8>, AllocError>
     requires { IsRate script.now.rate }
