@@ -28,7 +28,8 @@ named : (name : List ℕ) (rest : Bool) → (is_name name && rest) ≡ true → 
 unfolding text
 named name rest s = rw ((both (is_utf8 name) (is_word SpaceTabReturn name && is_line name) (both (is_name name) rest s).0).0) refl
 
-said : (ws : Words) (word : List ℕ) (rest : Bool) → list_all is_letters ws ≡ true → (is_one_of ws word && rest) ≡ true → text word ≡ Some word
+said : (ws : Words) (word : List ℕ) (rest : Bool) → list_all is_letters ws ≡ true
+    → (is_one_of ws word && rest) ≡ true → text word ≡ Some word
 said ws word rest names s =
     let one : is_name word ≡ true = letters_name word (one_passes is_letters ws word (both (is_one_of ws word) rest s).0 names) in
     named word true (rw one refl)
@@ -53,16 +54,23 @@ parsed_again (out.FaultLine n why) f s = rw (small n true f, said line_faults wh
 parsed_again (out.FaultClip n kind) f s = rw (small n true f, said clip_faults kind true refl s) refl
 parsed_again (out.FaultRecord n kind) f s = rw (small n true f, said record_faults kind true refl s) refl
 parsed_again (out.Store name kind) f s =
-    rw (named name (is_one_of store_faults kind && true) s, said store_faults kind true refl (later (is_name name) (is_one_of store_faults kind && true) s)) refl
+    rw (
+      named name (is_one_of store_faults kind && true) s,
+      said store_faults kind true refl (later (is_name name) (is_one_of store_faults kind && true) s),
+    ) refl
 parsed_again out.ScreenFailed f s = refl
 parsed_again out.NoMemory f s = refl
 parsed_again (out.JournalFull len owed) f s =
     rw (long len (nat_lt owed (2 ^ 64) && true) f, long owed true (later (nat_lt len (2 ^ 64)) (nat_lt owed (2 ^ 64) && true) f)) refl
 parsed_again out.Usage f s = refl
 parsed_again (out.Done export frames) f s =
-    rw (long export (nat_lt frames (2 ^ 32) && true) f, small frames true (later (nat_lt export (2 ^ 64)) (nat_lt frames (2 ^ 32) && true) f)) refl
+    rw (
+      long export (nat_lt frames (2 ^ 32) && true) f,
+      small frames true (later (nat_lt export (2 ^ 64)) (nat_lt frames (2 ^ 32) && true) f),
+    ) refl
 parsed_again (out.ExportFault export at clip frame kind) f s =
-    let rest : (nat_lt at (2 ^ 32) && (nat_lt frame (2 ^ 32) && true)) ≡ true = later (nat_lt export (2 ^ 64)) (nat_lt at (2 ^ 32) && (nat_lt frame (2 ^ 32) && true)) f in
+    let rest : (nat_lt at (2 ^ 32) && (nat_lt frame (2 ^ 32) && true)) ≡ true =
+    later (nat_lt export (2 ^ 64)) (nat_lt at (2 ^ 32) && (nat_lt frame (2 ^ 32) && true)) f in
     rw (
       long export (nat_lt at (2 ^ 32) && (nat_lt frame (2 ^ 32) && true)) f,
       small at (nat_lt frame (2 ^ 32) && true) rest,
@@ -80,7 +88,8 @@ unfolding joined found_in words parsed
 found_all [] e = ap found_in (lines_read_back [] [] refl)
 found_all (w ∷ ws) e = found_joined w ws e
 
-pub read_back : (bytes : List ℕ) (line : OutLine) → fits line ≡ true → is_sound line ≡ true → bytes ≡ line_text line → found bytes ≡ Some line
+pub read_back : (bytes : List ℕ) (line : OutLine) → fits line ≡ true → is_sound line ≡ true → bytes ≡ line_text line
+    → found bytes ≡ Some line
 read_back bytes line f s e =
     ap found e ∙ found_all (words_of line) (fields_plain (fields line) (usual_fields line) f s) ∙ parsed_again line f s
 
@@ -96,12 +105,14 @@ verified_if bytes line true true e f = (e, sym (same_bytes (line_text line) byte
 verified_if bytes line true false e f = tt
 verified_if bytes line false c e f = tt
 
-found_verified : (bytes : List ℕ) (one : Option OutLine) → IfSome (one >>= verified bytes) (λ line. (IsTrue (is_sound line)) × (bytes ≡ line_text line))
+found_verified : (bytes : List ℕ) (one : Option OutLine)
+    → IfSome (one >>= verified bytes) (λ line. (IsTrue (is_sound line)) × (bytes ≡ line_text line))
 found_verified bytes None = tt
 found_verified bytes (Some line) = verified_if bytes line (is_sound line) (bytes_eq (line_text line) bytes) refl refl
 
 -- what is read is a sound line, spelled as the text
-pub read_is_line : (bytes : List ℕ) (read : Option OutLine) → read ≡ read_text bytes → IfSome read (λ line. (IsTrue (is_sound line)) × (bytes ≡ line_text line))
+pub read_is_line : (bytes : List ℕ) (read : Option OutLine) → read ≡ read_text bytes
+    → IfSome read (λ line. (IsTrue (is_sound line)) × (bytes ≡ line_text line))
 unfolding read_text
 read_is_line bytes read e = rw e (found_verified bytes (found bytes))
 

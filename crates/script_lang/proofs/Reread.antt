@@ -63,11 +63,17 @@ digit_bounds b e = let parts = both (nat_le 48 b) (nat_le b 57) e in (leb-true 4
 other_byte : (b other : ℕ) → is_ascii_digit b ≡ true → other < 48 → nat_eq b other ≡ false
 other_byte b other e low = let bounds = digit_bounds b e in ne_eqb b other (λ same. omega arith)
 
-digits_unblank : (digits : List ℕ) → list_all is_ascii_digit digits ≡ true → list_all (λ byte. not (is_blank SpaceTabReturn byte)) digits ≡ true
+digits_unblank : (digits : List ℕ) → list_all is_ascii_digit digits ≡ true
+    → list_all (λ byte. not (is_blank SpaceTabReturn byte)) digits ≡ true
 digits_unblank [] e = refl
 digits_unblank (b ∷ more) e =
     let parts = both (is_ascii_digit b) (list_all is_ascii_digit more) e in
-    rw (other_byte b 32 parts.0 (lit< tt), other_byte b 9 parts.0 (lit< tt), other_byte b 13 parts.0 (lit< tt), digits_unblank more parts.1) refl
+    rw (
+      other_byte b 32 parts.0 (lit< tt),
+      other_byte b 9 parts.0 (lit< tt),
+      other_byte b 13 parts.0 (lit< tt),
+      digits_unblank more parts.1,
+    ) refl
 
 digits_is_line : (digits : List ℕ) → list_all is_ascii_digit digits ≡ true → is_line digits ≡ true
 digits_is_line [] e = refl
@@ -92,5 +98,10 @@ digits_more n digits high before = (
 pub decimal_plain : (n : ℕ) → n < 2 ^ 64 → is_plain (decimal n) ≡ true
 unfolding Digits is_plain
 decimal_plain n fits =
-    let digits : (list_all is_ascii_digit (decimal n) ≡ true) × (0 < length (decimal n)) = decimal_by_steps Digits digits_one digits_more n fits in
-    rw (ne_eqb (length (decimal n)) 0 (λ none. omega (arith, digits.1)), digits_unblank (decimal n) digits.0, digits_is_line (decimal n) digits.0) refl
+    let digits : (list_all is_ascii_digit (decimal n) ≡ true) × (0 < length (decimal n)) =
+    decimal_by_steps Digits digits_one digits_more n fits in
+    rw (
+      ne_eqb (length (decimal n)) 0 (λ none. omega (arith, digits.1)),
+      digits_unblank (decimal n) digits.0,
+      digits_is_line (decimal n) digits.0,
+    ) refl

@@ -105,7 +105,8 @@ name_plain : (name : List ℕ) → is_name name ≡ true → is_plain name ≡ t
 unfolding is_plain
 name_plain name e = (both (is_utf8 name) (is_word SpaceTabReturn name && is_line name) e).1
 
-field_plain : (field : Field) → is_usual field ≡ true → fits_field field ≡ true → is_sound_field field ≡ true → is_plain (word_of field) ≡ true
+field_plain : (field : Field) → is_usual field ≡ true → fits_field field ≡ true → is_sound_field field ≡ true
+    → is_plain (word_of field) ≡ true
 unfolding is_usual
 field_plain (Fixed word) u f s = u
 field_plain (Number bits n) u f s =
@@ -116,7 +117,8 @@ field_plain (Number bits n) u f s =
 field_plain (Listed ws word) u f s = name_plain word (letters_name word (one_passes is_letters ws word s u))
 field_plain (Named name) u f s = name_plain name s
 
-pub fields_plain : (fs : List Field) → list_all is_usual fs ≡ true → list_all fits_field fs ≡ true → list_all is_sound_field fs ≡ true → list_all is_plain (map word_of fs) ≡ true
+pub fields_plain : (fs : List Field) → list_all is_usual fs ≡ true → list_all fits_field fs ≡ true → list_all is_sound_field fs ≡ true
+    → list_all is_plain (map word_of fs) ≡ true
 fields_plain [] u f s = refl
 fields_plain (field ∷ more) u f s =
     let us = both (is_usual field) (list_all is_usual more) u in

@@ -20,10 +20,12 @@ pub take_before : (old new : List ℕ) → Extends old new → take (length old)
 take_before old new e = rw (e.whole) (take_front old e.more)
 
 -- a list that has grown by some bytes, then by a blank, and then by more
-pub extends_after : (old before blank new some : List ℕ) → before ≡ old ++ some → blank ≡ before ++ 32 ∷ [] → Extends blank new → Extends old new
+pub extends_after : (old before blank new some : List ℕ) → before ≡ old ++ some → blank ≡ before ++ 32 ∷ []
+    → Extends blank new → Extends old new
 extends_after old before blank new some e f h = record {
   more = some ++ 32 ∷ h.more;
-  whole = h.whole ∙ ap (λ xs. xs ++ h.more) (f ∙ ap (λ xs. xs ++ 32 ∷ []) e) ∙ append_assoc (old ++ some) (32 ∷ []) h.more ∙ append_assoc old some (32 ∷ h.more);
+  whole = h.whole ∙ ap (λ xs. xs ++ h.more) (f ∙ ap (λ xs. xs ++ 32 ∷ []) e) ∙ append_assoc (old ++ some) (32 ∷ []) h.more
+      ∙ append_assoc old some (32 ∷ h.more);
 }
 
 -- the line of a faulty record

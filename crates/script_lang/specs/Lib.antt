@@ -3,3 +3,5 @@ pub mod Line
 pub mod Word
 pub mod Parsed
 pub mod Sound
+pub mod Writing
+pub mod Shape

@@ -42,7 +42,8 @@ fields out.Usage =
     ∷ Fixed (codes "[--cache") ∷ Fixed (codes "N]") ∷ Fixed (codes "[--journal") ∷ Fixed (codes "N]") ∷ []
 fields (out.Done export frames) = Fixed (codes "export") ∷ Number 64 export ∷ Fixed (codes "done") ∷ Number 32 frames ∷ []
 fields (out.ExportFault export at clip frame kind) =
-    Fixed (codes "export") ∷ Number 64 export ∷ Fixed (codes "fault") ∷ Number 32 at ∷ Named clip ∷ Number 32 frame ∷ Listed frame_faults kind ∷ []
+    Fixed (codes "export") ∷ Number 64 export ∷ Fixed (codes "fault") ∷ Number 32 at ∷ Named clip
+    ∷ Number 32 frame ∷ Listed frame_faults kind ∷ []
 fields (out.Long export at) = Fixed (codes "export") ∷ Number 64 export ∷ Fixed (codes "long") ∷ Number 32 at ∷ []
 fields (out.Sink export) = Fixed (codes "export") ∷ Number 64 export ∷ Fixed (codes "sink") ∷ []
 fields (out.Memory export) = Fixed (codes "export") ∷ Number 64 export ∷ Fixed (codes "memory") ∷ []

@@ -7,14 +7,14 @@ Words = List (List ℕ)
 -- why an edit, an undo, a redo or an export is refused
 abbrev pub refusals : Words
 refusals =
-    codes "PastEnd" ∷ codes "NoCut" ∷ codes "NoClip" ∷ codes "ShapeDiffers" ∷ codes "OutsideClip" ∷ codes "MixTooLong" ∷ codes "TooManyFrames"
-    ∷ codes "TooManySegments" ∷ codes "NothingToUndo" ∷ codes "NothingToRedo" ∷ codes "EmptyTimeline" ∷ []
+    codes "PastEnd" ∷ codes "NoCut" ∷ codes "NoClip" ∷ codes "ShapeDiffers" ∷ codes "OutsideClip" ∷ codes "MixTooLong"
+    ∷ codes "TooManyFrames" ∷ codes "TooManySegments" ∷ codes "NothingToUndo" ∷ codes "NothingToRedo" ∷ codes "EmptyTimeline" ∷ []
 
 -- why a line of an edit list is faulty
 abbrev pub edl_faults : Words
 edl_faults =
-    codes "Drop" ∷ codes "Speed" ∷ codes "Wipe" ∷ codes "Key" ∷ codes "Unknown" ∷ codes "Timecode" ∷ codes "PairMissing" ∷ codes "UnknownClip"
-    ∷ codes "Span" ∷ codes "OutsideClip" ∷ codes "Overlap" ∷ []
+    codes "Drop" ∷ codes "Speed" ∷ codes "Wipe" ∷ codes "Key" ∷ codes "Unknown" ∷ codes "Timecode" ∷ codes "PairMissing"
+    ∷ codes "UnknownClip" ∷ codes "Span" ∷ codes "OutsideClip" ∷ codes "Overlap" ∷ []
 
 -- why a coded frame is faulty
 abbrev pub frame_faults : Words

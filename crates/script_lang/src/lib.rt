@@ -6,6 +6,7 @@ mod parsing;
 mod printing;
 mod reading;
 mod script;
+mod writing;
 
 pub use out_line::OutLine;
 pub use printing::put_line;
@@ -14,6 +15,7 @@ pub use script::{
     BodyLine, BodyLines, Call, ChromaWord, ClipLine, ClipLines, CoderWord, FormatLine, Script,
     ScriptFault, ScriptRefusal,
 };
+pub use writing::write_script;
 
 #[cfg(test)]
 mod tests;

@@ -210,11 +210,12 @@ fn read_text(alloc: Global, text: &[u8]) -> Result<Option<OutLine>, AllocError>
     }
 }
 
-/// The line that a text is, with its line feed. None exactly where the text is no line: single blanks part its words, a number has no leading
-/// zeros, a name is a single word, and each other word is of its list.
+/// The line that a text is, with its line feed. None exactly where the text is no line: single blanks part its words, a number has
+/// no leading zeros, a name is a single word, and each other word is of its list.
 pub fn read_line(alloc: Global, text: &[u8]) -> Result<Option<OutLine>, AllocError>
     ensures line { IfOk result (λ read. IfSome read (λ line. (IsTrue (is_sound line)) × (text.now ≡ line_text line))) }
-    ensures back { IfOk result (λ read. (line : OutLine) → IsTrue (fits line) → IsTrue (is_sound line) → text.now ≡ line_text line → read ≡ Some line) }
+    ensures back { IfOk result (λ read. (line : OutLine) → IsTrue (fits line) → IsTrue (is_sound line)
+        → text.now ≡ line_text line → read ≡ Some line) }
 {
     let read = read_text(alloc, text)?;
     Ok(read)

@@ -9,4 +9,5 @@ on_err P (Err e) fact = fact
 
 pub returns-in_err-put_word-clause-err : goal.returns-in_err-put_word-clause-err
 returns-in_err-put_word-clause-err c =
-    on_err _ _ (extends_after c.args.into.now.items c.loop-word.into.items c.push.new.self.items c.put_word.new.into.items _ c.loop-word.invariant c.in_ok-push.ensures.items c.in_err-put_word.ensures.err)
+    on_err _ _ (extends_after c.args.into.now.items c.loop-word.into.items
+    c.push.new.self.items c.put_word.new.into.items _ c.loop-word.invariant c.in_ok-push.ensures.items c.in_err-put_word.ensures.err)
