@@ -87,6 +87,10 @@ abbrev pub header_fault_of : HeaderFault → ℕ → FrameFault
 header_fault_of header_faults.Header i = BadHeader i
 header_fault_of header_faults.TableIndex i = TableIndex i
 
+abbrev pub slice_fault_of : SliceFault → ℕ → FrameFault
+slice_fault_of slice_faults.Symbol i = Symbol i
+slice_fault_of slice_faults.Overrun i = Overrun i
+
 -- ---- the samples
 -- the tables of a slice's header, and the areas of its cells
 abbrev pub slice_by : Parameters → Header → Areas → slices.Slice

@@ -18,7 +18,7 @@ use std::alloc::Global;
 use tl_model::FrameFault;
 
 // The slices of a packet that has bytes.
-fn found(alloc: Global, packet: &[u8], ec: bool) -> Result<Vec<Span>, DecodeFault>
+pub(crate) fn found(alloc: Global, packet: &[u8], ec: bool) -> Result<Vec<Span>, DecodeFault>
     ensures ok { IfOk result (λ spans. (packet.now ≢ []) × EndsWith ec packet.now (reverse (map (slice_at packet.now) spans.items))) }
     ensures spans { IfOk result (λ spans. All (IsSpan packet.now) spans.items) }
     ensures few { IfOk result (λ spans. 3 * vec_len spans ≤ length packet.now) }
@@ -51,9 +51,10 @@ fn test_parities(packet: &[u8], spans: &[Span], ec: bool) -> Result<(), DecodeFa
 }
 
 // The content of a slice, which is empty past the last one.
-fn content<'a>(packet: &'a [u8], spans: &[Span], i: usize) -> &'a [u8]
+pub(crate) fn content<'a>(packet: &'a [u8], spans: &[Span], i: usize) -> &'a [u8]
     requires { All (IsSpan packet.now) spans.now }
-    ensures { result.now ≡ (slice_index_or (map (slice_at packet.now) spans.now) i no_slice).content }
+    ensures content { result.now ≡ (slice_index_or (map (slice_at packet.now) spans.now) i no_slice).content }
+    ensures few { length result.now ≤ length packet.now }
 {
     if i < spans.len() {
         &packet[spans[i].from..spans[i].footer]
@@ -86,7 +87,7 @@ fn is_key(content: &[u8], table: &Transition) -> bool
     reader.bit(&mut state)
 }
 
-fn grid_of(record: &Record) -> Grid
+pub(crate) fn grid_of(record: &Record) -> Grid
     ensures { result ≡ grid_of record.now }
 {
     record.lawful();
@@ -98,14 +99,15 @@ fn grid_of(record: &Record) -> Grid
 }
 
 // What the header of a slice gives, and a reader behind it.
-fn open_slice<'a>(
+pub(crate) fn open_slice<'a>(
     record: &'a Record,
     packet: &'a [u8],
     spans: &[Span],
     i: usize,
 ) -> (Result<Header, HeaderFault>, RangeReader<'a>)
     requires { All (IsSpan packet.now) spans.now }
-    ensures { HeaderGives record.now i (slice_index_or (map (slice_at packet.now) spans.now) i no_slice) result.1 result.0 }
+    ensures gives { HeaderGives record.now i (slice_index_or (map (slice_at packet.now) spans.now) i no_slice) result.1 result.0 }
+    ensures fresh { AllKept result.1.table (replicate 32 128) }
 {
     let content = content(packet, spans, i);
     let grid = grid_of(record);
@@ -137,7 +139,7 @@ fn headers_of(
     Ok(headers)
 }
 
-fn header_fault(fault: HeaderFault, slice: u32) -> FrameFault
+pub(crate) fn header_fault(fault: HeaderFault, slice: u32) -> FrameFault
     ensures { result ≡ header_fault_of fault slice }
 {
     match fault {
@@ -147,7 +149,7 @@ fn header_fault(fault: HeaderFault, slice: u32) -> FrameFault
 }
 
 // The headers of the slices of a packet, which are one for each cell of the grid.
-fn tested(
+pub(crate) fn tested(
     alloc: Global,
     record: &Record,
     packet: &[u8],

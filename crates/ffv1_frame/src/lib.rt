@@ -3,7 +3,13 @@
 
 mod chain;
 mod cover;
+mod decode;
 mod fault;
 mod frame;
+mod samples;
 
+pub use decode::decode_frame;
 pub use fault::DecodeFault;
+
+#[cfg(test)]
+mod tests;

@@ -20,14 +20,14 @@ returns-in-Err-clause-err c = λ shape frame.
     let at : c.loop-i.i ≡ length c.loop-i.headers.items = omega (arith, c.loop-i.headers.ok.0, c.loop-i.invariant.len) in
     let lt : c.loop-i.i < length slices = omega (arith, length-map c.args.spans.now (slice_at c.args.packet.now), c.loop-i-test.true) in
     rw c.header_fault.ensures (bad_header c.args.record.now shape c.args.packet.now slices c.loop-i.headers.items c.loop-i.i c.in-Err.fault c.open_slice-header.result.1 frame c.loop-i.invariant.headers at lt
-    (subst (λ (r : Result Header HeaderFault). HeaderGives c.args.record.now c.loop-i.i (slice_index_or slices c.loop-i.i no_slice) c.open_slice-header.result.1 r) c.in-Err.is c.open_slice-header.ensures))
+    (subst (λ (r : Result Header HeaderFault). HeaderGives c.args.record.now c.loop-i.i (slice_index_or slices c.loop-i.i no_slice) c.open_slice-header.result.1 r) c.in-Err.is c.open_slice-header.ensures.gives))
 
 pub loop-i-preserved : goal.loop-i-preserved
 loop-i-preserved c =
     let slices : List Slice = map (slice_at c.args.packet.now) c.args.spans.now in
     let at : c.loop-i.i ≡ length c.loop-i.headers.items = omega (arith, c.loop-i.headers.ok.0, c.loop-i.invariant.len) in
     let gives : HeaderGives c.args.record.now c.loop-i.i (slice_index_or slices c.loop-i.i no_slice) c.open_slice-header.result.1 (Ok c.in-Ok.header) =
-    subst (λ (r : Result Header HeaderFault). HeaderGives c.args.record.now c.loop-i.i (slice_index_or slices c.loop-i.i no_slice) c.open_slice-header.result.1 r) c.in-Ok.is c.open_slice-header.ensures in
+    subst (λ (r : Result Header HeaderFault). HeaderGives c.args.record.now c.loop-i.i (slice_index_or slices c.loop-i.i no_slice) c.open_slice-header.result.1 r) c.in-Ok.is c.open_slice-header.ensures.gives in
     record {
       headers = rw c.in_ok-push-in-Ok.ensures.items (one_header c.args.record.now slices c.loop-i.headers.items c.in-Ok.header c.open_slice-header.result.1 c.loop-i.invariant.headers
           (omega (arith, at, length-map c.args.spans.now (slice_at c.args.packet.now), c.loop-i-test.true))

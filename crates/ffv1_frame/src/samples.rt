@@ -1,0 +1,102 @@
+//! The samples of one slice, by its header. RFC 9043 sections 4.7 and 4.8.
+ghost use Rattle.std.specs.Prelude.{◌≡◌, ℕ, ◌<◌, ◌≤◌, ◌^◌, length, replicate, map, slice_index};
+ghost use Rattle.ffv1_range.specs.Transition.{AllKept};
+ghost use Rattle.ffv1_record.specs.Parameters.{tables_of, context_count_of};
+ghost use Rattle.ffv1_record.specs.Tables.{set_of};
+ghost use Rattle.ffv1_slice.specs.Cells.{IsInGrid, areas_of};
+ghost use Rattle.ffv1_slice.specs.Reading.{ContextsFit};
+ghost use Rattle.ffv1_slice.specs.Slice as slices;
+ghost use Rattle.ffv1_frame.specs.Frame.{grid_of, slice_by};
+
+use crate::frame::grid_of;
+use ffv1_range::RangeReader;
+use ffv1_record::{Record, TableSet, Tables};
+use ffv1_slice::{Header, Quantization, Scratch, SliceFault, decode_slice};
+use pic_planes::{Picture, Shape};
+
+// The entries of the tables of a set.
+fn tables_of(record: &Record, set: u32) -> Tables
+    requires { set < length record.now.sets }
+    ensures { result ≡ tables_of record.now set }
+{
+    let mut tables = Tables::zero();
+    record.fill(set as usize, &mut tables);
+    tables
+}
+
+// How many contexts the tables of a set give.
+fn context_count(record: &Record, set: u32) -> usize
+    requires { set < length record.now.sets }
+    ensures { result ≡ context_count_of record.now set }
+{
+    record.table_sets()[set as usize].context_count() as usize
+}
+
+/// The most contexts that the tables of a set give.
+pub(crate) fn most_contexts(record: &Record) -> usize
+    ensures { (set : ℕ) → set < length record.now.sets → context_count_of record.now set ≤ result }
+{
+    most_of(record.table_sets())
+}
+
+fn most_of(sets: &[TableSet]) -> usize
+    ensures { (set : ℕ) → set < length sets.now → slice_index (map (λ s. s.context_count) (map set_of sets.now)) set ≤ result }
+{
+    let mut most = 0;
+    for set in sets {
+        most = larger(set.context_count(), most);
+    }
+    most as usize
+}
+
+fn larger(a: u32, b: u32) -> u32
+    ensures first { a ≤ result }
+    ensures second { b ≤ result }
+{
+    if a < b { b } else { a }
+}
+
+// The tables of a set, to decode by.
+fn quantization<'a>(record: &Record, set: u32, tables: &'a Tables) -> Quantization<'a>
+    requires set { set < length record.now.sets }
+    requires tables { tables.now ≡ tables_of record.now set }
+    ensures tables { result.tables.now ≡ tables_of record.now set }
+    ensures count { result.context_count ≡ context_count_of record.now set }
+    ensures fits { ContextsFit result.tables.now result.context_count }
+{
+    record.lawful();
+    Quantization {
+        tables: tables.arrays(),
+        context_count: context_count(record, set),
+    }
+}
+
+/// Reads the samples of a slice into a picture, behind its header, from a content of so many bytes.
+pub(crate) fn decode_samples(
+    record: &Record,
+    header: Header,
+    reader: RangeReader,
+    content: u64,
+    shape: Shape,
+    scratch: &mut Scratch,
+    picture: &mut Picture,
+) -> Result<(), SliceFault>
+    requires grid { IsInGrid (grid_of record.now) shape header }
+    requires luma { header.luma_set < length record.now.sets }
+    requires chroma { header.chroma_set < length record.now.sets }
+    requires shape { picture.old.shape ≡ shape }
+    requires width { shape.width ≤ scratch.old.width }
+    requires contexts { (set : ℕ) → set < length record.now.sets → context_count_of record.now set ≤ scratch.old.contexts }
+    requires fresh { AllKept reader.table (replicate 32 128) }
+    requires content { content < 2 ^ 60 }
+    ensures gives { slices.Gives (slice_by record.now header (areas_of (grid_of record.now) shape header)) content (slices.standing reader.entry picture.old) picture.new result }
+    ensures shape { picture.new.shape ≡ picture.old.shape }
+    ensures room { scratch.new ≡ scratch.old }
+{
+    let luma_tables = tables_of(record, header.luma_set);
+    let chroma_tables = tables_of(record, header.chroma_set);
+    let luma = quantization(record, header.luma_set, &luma_tables);
+    let chroma = quantization(record, header.chroma_set, &chroma_tables);
+    let areas = header.areas(grid_of(record), shape);
+    decode_slice(reader, content, luma, chroma, areas, scratch, picture)
+}

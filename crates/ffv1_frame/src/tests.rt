@@ -1,0 +1,95 @@
+//! Worked packets.
+
+use super::{DecodeFault, decode_frame};
+use ffv1_record::{Coder, Record, default_record};
+use pic_planes::{Chroma, Picture, Shape};
+use std::alloc::{AllocError, Global};
+use std::test::Fail;
+use tl_model::FrameFault;
+
+// A picture's samples, plane after plane.
+fn samples_of(alloc: Global, picture: &Picture) -> Result<Vec<u8>, AllocError> {
+    let mut samples = Vec::new(alloc);
+    let shape = picture.shape();
+    for plane in 0..shape.plane_count() {
+        for y in 0..shape.plane_height(plane) {
+            samples.extend_from_slice(picture.row(plane, y))?;
+        }
+    }
+    Ok(samples)
+}
+
+// The samples of the picture that a packet decodes to, or its fault. None where the packet may not be decoded by the record.
+fn decoded(
+    alloc: Global,
+    record: &Record,
+    shape: Shape,
+    packet: &[u8],
+) -> Result<Option<Vec<u8>>, DecodeFault> {
+    if packet.len() > 10 {
+        return Ok(None);
+    }
+    if !record.suits(shape) {
+        return Ok(None);
+    }
+    match record.coder() {
+        Coder::Rice => Ok(None),
+        Coder::Range => {
+            let picture = decode_frame(alloc, record, shape, packet)?;
+            let samples = samples_of(alloc, &picture)?;
+            Ok(Some(samples))
+        }
+    }
+}
+
+// The fault of a packet.
+fn fault(alloc: Global, record: &Record, shape: Shape, packet: &[u8]) -> Option<FrameFault> {
+    match decoded(alloc, record, shape, packet) {
+        Err(DecodeFault::Frame(fault)) => Some(fault),
+        _ => None,
+    }
+}
+
+// Whether a packet decodes to these samples.
+fn has_samples(
+    alloc: Global,
+    record: &Record,
+    shape: Shape,
+    packet: &[u8],
+    samples: &[u8],
+) -> bool {
+    match decoded(alloc, record, shape, packet) {
+        Ok(Some(found)) => found.as_slice() == samples,
+        _ => false,
+    }
+}
+
+#[test]
+#[rattlefmt::skip]
+fn worked_packets(rt: HostRuntime) -> Result<(), Fail> {
+    let a = rt.alloc();
+    let chroma = Shape::of(1, 1, Chroma::Shifts { h: 1, v: 1 }).ok_or("a shape")?;
+    let large = Shape::of(64, 64, Chroma::Grey).ok_or("a shape")?;
+    let wide = Shape::of(2, 1, Chroma::Grey).ok_or("a shape")?;
+    let square = Shape::of(2, 2, Chroma::Grey).ok_or("a shape")?;
+    let yuv420 = default_record(a, chroma, Coder::Range, 1, 1)?.with_ec(false);
+    let grey = default_record(a, large, Coder::Range, 1, 1)?.with_ec(false);
+    let two = default_record(a, wide, Coder::Range, 2, 1)?.with_ec(false);
+    let checked = default_record(a, square, Coder::Range, 1, 1)?;
+    let whole = [0xFF, 0xFF, 0, 0, 2, 0, 0xA2, 0xC4, 0x9B, 0x7B];
+    let wrong = [0xFE, 0xFF, 0, 0, 2, 0, 0xA2, 0xC4, 0x9B, 0x7B];
+    assert!(rt; has_samples(a, &yuv420, chroma, &[0xFF, 0xFF, 0, 0, 2], &[0, 0, 0]));
+    assert!(rt; has_samples(a, &checked, square, &whole, &[0, 0, 0, 0]));
+    for (record, shape, packet, expected) in [
+        (&yuv420, chroma, [].as_slice(), FrameFault::Empty),
+        (&yuv420, chroma, [0xFF, 0xFF, 0, 0, 3].as_slice(), FrameFault::Chain),
+        (&yuv420, chroma, [0x10, 0, 0, 0, 2].as_slice(), FrameFault::NotKey),
+        (&grey, large, [0xFF, 0xFF, 0, 0, 2].as_slice(), FrameFault::Overrun { slice: 0 }),
+        (&two, wide, [0xFF, 0xFF, 0, 0, 2].as_slice(), FrameFault::Cover { cell: 1 }),
+        (&two, wide, [0xFF, 0xFF, 0, 0, 2, 0xFF, 0xFF, 0, 0, 2].as_slice(), FrameFault::Cover { cell: 0 }),
+        (&checked, square, wrong.as_slice(), FrameFault::Parity { slice: 0 }),
+    ] {
+        assert_eq!(rt; fault(a, record, shape, packet), Some(expected));
+    }
+    Ok(())
+}
