@@ -55,7 +55,8 @@ reader_at table false content = opened table content
 
 -- What the header of a slice gives, counted from 0.
 abbrev pub HeaderGives : Parameters → ℕ → Slice → Reading → Result Header HeaderFault → Type 0
-HeaderGives p i slice reading result = headers.Gives (grid_of p) (source (reader_at p.transition (i == 0) slice.content) (replicate 32 128)) reading result
+HeaderGives p i slice reading result = headers.Gives (grid_of p) (source (reader_at p.transition (i == 0) slice.content)
+    (replicate 32 128)) reading result
 
 abbrev pub no_header : Header
 no_header = record { x = 0; y = 0; columns = 0; rows = 0; luma_set = 0; chroma_set = 0 }

@@ -81,8 +81,11 @@ fn spans_backwards(alloc: Global, packet: &[u8], ec: bool) -> Result<Vec<Span>, 
 // content whose size it gives.
 fn last_span(packet: &[u8], end: usize, ec: bool) -> Option<Span>
     requires { end ≤ length packet.now }
-    ensures some { IfSome result (λ span. (span.from + 3 ≤ end) × IsSpan packet.now span × (take end packet.now ≡ take span.from packet.now ++ bytes_of (slice_at packet.now span)) × IsSlice ec (slice_at packet.now span)) }
-    ensures none { IfNone result ((before : List ℕ) (slice : Slice) → take end packet.now ≡ before ++ bytes_of slice → IsSlice ec slice → ⊥) }
+    ensures some { IfSome result (λ span. (span.from + 3 ≤ end) × IsSpan packet.now span
+        × (take end packet.now ≡ take span.from packet.now ++ bytes_of (slice_at packet.now span))
+        × IsSlice ec (slice_at packet.now span)) }
+    ensures none { IfNone result ((before : List ℕ) (slice : Slice) → take end packet.now ≡ before ++ bytes_of slice → IsSlice ec slice
+        → ⊥) }
 {
     let footer_length = footer_length(ec);
     if end < footer_length {
@@ -110,7 +113,9 @@ fn footer_length(ec: bool) -> usize
 /// The first slice whose bytes have another parity than 0.
 pub(crate) fn first_wrong(packet: &[u8], spans: &[Span]) -> Option<usize>
     requires { All (IsSpan packet.now) spans.now }
-    ensures { MatchOption result (All HasParity (map (slice_at packet.now) spans.now)) (λ i. (i < length spans.now) × All HasParity (take i (map (slice_at packet.now) spans.now)) × ¬ HasParity (slice_index_or (map (slice_at packet.now) spans.now) i no_slice)) }
+    ensures { MatchOption result (All HasParity (map (slice_at packet.now) spans.now)) (λ i. (i < length spans.now)
+        × All HasParity (take i (map (slice_at packet.now) spans.now))
+        × ¬ HasParity (slice_index_or (map (slice_at packet.now) spans.now) i no_slice)) }
 {
     for i in 0..spans.len() {
         if !has_parity(packet, spans[i]) {

@@ -95,8 +95,10 @@ fn decode_at(
     requires shape { picture.old.shape ≡ shape }
     requires width { shape.width ≤ scratch.old.width }
     requires contexts { (set : ℕ) → set < length record.now.sets → context_count_of record.now set ≤ scratch.old.contexts }
-    ensures ok { OnOk result (SliceGives record.now shape i (slice_index_or (map (slice_at packet.now) spans.now) i no_slice) picture.old picture.new (Ok tt)) }
-    ensures err { IfErr result (λ fault. IsWhole record.now packet.now (map (slice_at packet.now) spans.now) → DecodesTo record.now shape (map (slice_at packet.now) spans.now) i picture.old → Gives record.now shape packet.now (Err fault)) }
+    ensures ok { OnOk result (SliceGives record.now shape i (slice_index_or (map
+        (slice_at packet.now) spans.now) i no_slice) picture.old picture.new (Ok tt)) }
+    ensures err { IfErr result (λ fault. IsWhole record.now packet.now (map (slice_at packet.now) spans.now)
+        → DecodesTo record.now shape (map (slice_at packet.now) spans.now) i picture.old → Gives record.now shape packet.now (Err fault)) }
     ensures shape { picture.new.shape ≡ picture.old.shape }
     ensures room { scratch.new ≡ scratch.old }
 {

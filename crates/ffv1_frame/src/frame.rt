@@ -39,7 +39,8 @@ fn test_parities(packet: &[u8], spans: &[Span], ec: bool) -> Result<(), DecodeFa
     requires spans { All (IsSpan packet.now) spans.now }
     requires few { length spans.now < 2 ^ 32 }
     ensures ok { OnOk result (HaveParities ec (map (slice_at packet.now) spans.now)) }
-    ensures err { IfErr result (λ fault. (p : Parameters) (shape : Layout) → p.ec ≡ ec → packet.now ≢ [] → EndsWith ec packet.now (reverse (map (slice_at packet.now) spans.now)) → Gives p shape packet.now (Err fault)) }
+    ensures err { IfErr result (λ fault. (p : Parameters) (shape : Layout) → p.ec ≡ ec → packet.now ≢ []
+        → EndsWith ec packet.now (reverse (map (slice_at packet.now) spans.now)) → Gives p shape packet.now (Err fault)) }
 {
     if !ec {
         return Ok(());
@@ -125,8 +126,10 @@ fn headers_of(
 ) -> Result<Vec<Header>, DecodeFault>
     requires spans { All (IsSpan packet.now) spans.now }
     requires few { length spans.now < 2 ^ 32 }
-    ensures ok { IfOk result (λ headers. AreHeaders record.now (map (slice_at packet.now) spans.now) headers.items × (vec_len headers ≡ length spans.now)) }
-    ensures err { IfErr result (λ fault. (shape : Layout) → IsKeyFrame record.now packet.now (map (slice_at packet.now) spans.now) → Gives record.now shape packet.now (Err fault)) }
+    ensures ok { IfOk result (λ headers. AreHeaders record.now (map (slice_at packet.now) spans.now) headers.items
+        × (vec_len headers ≡ length spans.now)) }
+    ensures err { IfErr result (λ fault. (shape : Layout) → IsKeyFrame record.now packet.now (map (slice_at packet.now) spans.now)
+        → Gives record.now shape packet.now (Err fault)) }
 {
     let mut headers = Vec::new(alloc);
     for i in 0..spans.len() {
@@ -159,7 +162,8 @@ pub(crate) fn tested(
     requires chain { EndsWith record.now.ec packet.now (reverse (map (slice_at packet.now) spans.now)) }
     requires spans { All (IsSpan packet.now) spans.now }
     requires few { length spans.now < 2 ^ 32 }
-    ensures ok { IfOk result (λ headers. HaveHeaders record.now packet.now (map (slice_at packet.now) spans.now) headers.items × AreCovered record.now.columns headers.items (record.now.columns * record.now.rows)) }
+    ensures ok { IfOk result (λ headers. HaveHeaders record.now packet.now (map (slice_at packet.now) spans.now) headers.items
+        × AreCovered record.now.columns headers.items (record.now.columns * record.now.rows)) }
     ensures err { IfErr result (λ fault. (shape : Layout) → Gives record.now shape packet.now (Err fault)) }
 {
     test_parities(packet, spans, record.ec())?;
@@ -175,7 +179,8 @@ pub(crate) fn tested(
 }
 
 fn uncovered(record: &Record, headers: &[Header]) -> Option<u32>
-    ensures { MatchOption result (AreCovered record.now.columns headers.now (record.now.columns * record.now.rows)) (IsUncovered record.now.columns record.now.rows headers.now) }
+    ensures { MatchOption result (AreCovered record.now.columns headers.now (record.now.columns * record.now.rows))
+        (IsUncovered record.now.columns record.now.rows headers.now) }
 {
     first_uncovered(headers, record.columns(), record.rows())
 }

@@ -89,7 +89,8 @@ pub(crate) fn decode_samples(
     requires contexts { (set : ℕ) → set < length record.now.sets → context_count_of record.now set ≤ scratch.old.contexts }
     requires fresh { AllKept reader.table (replicate 32 128) }
     requires content { content < 2 ^ 60 }
-    ensures gives { slices.Gives (slice_by record.now header (areas_of (grid_of record.now) shape header)) content (slices.standing reader.entry picture.old) picture.new result }
+    ensures gives { slices.Gives (slice_by record.now header (areas_of (grid_of record.now) shape header)) content
+        (slices.standing reader.entry picture.old) picture.new result }
     ensures shape { picture.new.shape ≡ picture.old.shape }
     ensures room { scratch.new ≡ scratch.old }
 {
