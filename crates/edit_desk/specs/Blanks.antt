@@ -1,4 +1,4 @@
--- A library for tests: it has no clip, and every picture is the number 0.
+-- A library for tests: its one clip of one frame does not fit, and every picture is the number 0.
 use Rattle.std.specs.Prelude.{ℕ, true, false, List, [], ◌∷◌, Some, Result, Ok, Err}
 use Rattle.tl_model.specs.Media.{Library}
 use Rattle.tl_model.specs.declared.fault.FrameFault.{FrameFault}
@@ -10,8 +10,8 @@ number_in (number ∷ rest) = Ok number
 
 abbrev pub blanks : Library ℕ
 blanks = record {
-  clips = 0;
-  frames = λ clip. 0;
+  clips = 1;
+  frames = λ clip. 1;
   fits = λ clip. false;
   copies = λ clip. false;
   packet = λ clip frame. [];

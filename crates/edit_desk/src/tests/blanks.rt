@@ -1,4 +1,4 @@
-//! A library of no clips.
+//! A library of one clip, of one frame, that doesn't fit.
 
 ghost use Rattle.edit_desk.specs.Blanks.{blanks};
 
@@ -17,11 +17,11 @@ impl Media for Blanks {
     fn lawful(&self) {}
 
     fn clips(&self) -> u32 {
-        0
+        1
     }
 
     fn frames(&self, _clip: u32) -> u32 {
-        0
+        1
     }
 
     fn fits(&self, _clip: u32) -> bool {
