@@ -52,7 +52,7 @@ same_parts a b c d same len =
       sym (drop_at a b (length a) refl) ∙ ap (drop (length a)) same ∙ drop_at c d (length a) (sym places),
     )
 
-same_last : (ec : Bool) (before before' : List ℕ) (s t : Slice) → before ++ bytes_of s ≡ before' ++ bytes_of t → IsSlice ec s → IsSlice ec t → (before ≡ before') × (s ≡ t)
+pub same_last : (ec : Bool) (before before' : List ℕ) (s t : Slice) → before ++ bytes_of s ≡ before' ++ bytes_of t → IsSlice ec s → IsSlice ec t → (before ≡ before') × (s ≡ t)
 same_last ec before before' s t same h i =
     let whole : (before ++ s.content) ++ s.footer ≡ (before' ++ t.content) ++ t.footer = append_assoc before s.content s.footer ∙ same ∙ sym (append_assoc before' t.content t.footer) in
     let footers = same_parts (before ++ s.content) s.footer (before' ++ t.content) t.footer whole (h.footer ∙ sym i.footer) in

@@ -1,3 +1,5 @@
 pub mod Chains
 pub mod Frames
 pub mod SliceSteps
+pub mod Stages
+pub mod OneDecoding
