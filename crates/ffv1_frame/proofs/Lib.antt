@@ -3,3 +3,4 @@ pub mod Frames
 pub mod SliceSteps
 pub mod Stages
 pub mod OneDecoding
+pub mod DecodingExists

@@ -6,10 +6,12 @@ mod cover;
 mod decode;
 mod fault;
 mod frame;
+mod law;
 mod samples;
 
 pub use decode::decode_frame;
 pub use fault::DecodeFault;
+pub use law::one_decoding;
 
 #[cfg(test)]
 mod tests;
