@@ -1,0 +1,4 @@
+pub mod Turn
+pub mod Reading
+pub mod Slice
+pub mod Writing
