@@ -1,0 +1,5 @@
+pub mod RunSteps
+pub mod RowSteps
+pub mod TurnSteps
+pub mod PlaneSteps
+pub mod SliceSteps

@@ -1,0 +1,5 @@
+pub mod Turn
+pub mod Reading
+pub mod Ahead
+pub mod Slice
+pub mod Writing
