@@ -1,22 +1,20 @@
 -- A slice gives one picture or one fault.
-use Rattle.std.proofs.Common.{◌≡◌, ℕ, zero, suc, ◌+◌, ◌<◌, ◌≤◌, List, [], ◌∷◌, length, replicate, refl, sym, ◌∙◌, ap, subst, arith, inl, inr, ℤ, Some, None, Result, Ok, Err}
-use Rattle.std.specs.Prelude.{⊤, pos, slice_index, slice_index_or, ◌+ℤ◌}
+use Rattle.std.proofs.Common.{◌≡◌, ℕ, suc, ◌+◌, ◌<◌, ◌≤◌, List, [], ◌∷◌, length, replicate, refl, sym, ◌∙◌, ap, subst, arith, inl, inr, ℤ, Some, None, Result, Ok, Err}
+use Rattle.std.specs.Prelude.{⊤, pos, ◌+ℤ◌}
 use Rattle.std.specs.Int.{int_rem_euclid}
-use Rattle.std.proofs.lemmas.Bool.{cases_lt}
-use Rattle.std.proofs.lemmas.Grind.{same_number_lists}
-use Rattle.pic_planes.specs.Picture.{Image, IsPlane}
+use Rattle.pic_planes.specs.Picture.{Image}
 use Rattle.ffv1_predict.specs.declared.near.Near.{Near}
 use Rattle.ffv1_predict.specs.Near.{context, predicted, turned}
-use Rattle.ffv1_predict.specs.Border.{Rows, rows, rows_below, near}
+use Rattle.ffv1_predict.specs.Border.{rows, rows_below}
 use Rattle.ffv1_slice.specs.declared.area.Area.{Area}
 use Rattle.ffv1_slice.specs.declared.fault.SliceFault.{SliceFault}
 use Rattle.ffv1_slice.specs.declared.fault.SliceFault.TheVariants.{Symbol, Overrun}
 use Rattle.ffv1_slice.specs.Area.{with_rows}
 use Rattle.ffv1_slice.specs.Order.{InRow, InRows}
 use Rattle.ffv1_slice.specs.Reading.{Coding, difference_at, ReadsSample, TooLongInRow, TooLongInRows}
-use Rattle.ffv1_slice.specs.Slice.{Decoding, Standing, ReadsArea, IsFront, TooLongInArea, ReadsAreas, TooLongInAreas, Part, begun, ReadsPart, TooLongInPart, Slice, ReadsSlice, TooLongInSlice, Gives}
-use Rattle.ffv1_slice.proofs.Rows.{AgreeBelow, near_same}
+use Rattle.ffv1_slice.specs.Slice.{Decoding, Standing, ReadsArea, TooLongInArea, ReadsAreas, TooLongInAreas, Part, begun, ReadsPart, TooLongInPart, Slice, ReadsSlice, TooLongInSlice, Gives}
 use Rattle.ffv1_slice.proofs.OneHeader.{one_pair}
+use Rattle.ffv1_slice.proofs.OneRow.{IsApart, one_row, row_or_stuck, AreWide, plane_wide, front_wide}
 
 -- ---- a sample
 one_sample : (tables : List (List ℤ)) (n : Near) (a b : ℕ) (old x y : Coding) → ReadsSample tables n a old x → ReadsSample tables n b old y → (a ≡ b) × (x ≡ y)
@@ -32,61 +30,20 @@ sample_or_none tables n sample old x y (difference, here, is) none_read =
     let value : Some difference ≡ None = (one_pair (difference_at old (context tables n)) (Some difference) None x y here none_read).0 in cc
 
 -- ---- a row
-agree_more : (row other : List ℕ) (x : ℕ) → AgreeBelow row other x → slice_index other x ≡ slice_index row x → AgreeBelow row other (suc x)
-agree_more row other x before here k lt =
-    elim (cases_lt k x) [
-      | inl below ↦ before k below
-      | inr above ↦
-          let at : k ≡ x = omega arith in
-          subst (λ (j : ℕ). slice_index other j ≡ slice_index row j) (sym at) here
-    ]
+-- The next difference is too long.
+abbrev pub IsTooLong : List (List ℤ) → Near → Coding → Type 0
+IsTooLong tables n old = (new : Coding) × (difference_at old (context tables n) ≡ (None, new))
 
--- Below the same two rows, what is read up to a column is the same.
-one_row_to : (tables : List (List ℤ)) (above2 above row other : List ℕ) (x : ℕ) (old new end : Coding)
-    → InRow (ReadsSample tables) (rows above2 above row) x old new → InRow (ReadsSample tables) (rows above2 above other) x old end → AgreeBelow row other x × (new ≡ end)
-one_row_to tables above2 above row other zero old new end first second = (λ k lt. absurd (omega arith), sym first ∙ second)
-one_row_to tables above2 above row other (suc x) old new end (mid, before, here) (next, others, now) =
-    let so_far = one_row_to tables above2 above row other x old mid next before others in
-    let n : Near = near (rows above2 above row) x in
-    let there : ReadsSample tables n (slice_index other x) next end = subst (λ (m : Near). ReadsSample tables m (slice_index other x) next end) (near_same above2 above row other x so_far.0) now in
-    let from_mid : ReadsSample tables n (slice_index other x) mid end = subst (λ (c : Coding). ReadsSample tables n (slice_index other x) c end) (sym so_far.1) there in
-    let one = one_sample tables n (slice_index row x) (slice_index other x) mid new end here from_mid in
-    (agree_more row other x so_far.0 (sym one.0), one.1)
-
-one_row : (tables : List (List ℤ)) (above2 above row other : List ℕ) (old new end : Coding) → length row ≡ length other
-    → InRow (ReadsSample tables) (rows above2 above row) (length row) old new → InRow (ReadsSample tables) (rows above2 above other) (length other) old end → (row ≡ other) × (new ≡ end)
-one_row tables above2 above row other old new end len first second =
-    let same = one_row_to tables above2 above row other (length row) old new end first (subst (λ (x : ℕ). InRow (ReadsSample tables) (rows above2 above other) x old end) (sym len) second) in
-    (same_number_lists row other len (λ k lt. sym (same.0 k lt)), same.1)
-
--- what is read up to a column, and the sample there, of what is read further on
-up_to : {S : Type 0} (step : Near → ℕ → S → S → Type 0) (r : Rows) (x count : ℕ) (old new : S) → x < count → InRow step r count old new
-    → (mid next : S) × InRow step r x old mid × step (near r x) (slice_index r.row x) mid next
-up_to step r x zero old new lt done = absurd (omega arith)
-up_to {S} step r x (suc n) old new lt (last, before, here) =
-    elim (cases_lt x n) [
-      | inl below ↦ up_to step r x n old last below before
-      | inr above ↦
-          let at : n ≡ x = omega arith in
-          subst (λ (k : ℕ). (mid next : S) × InRow step r k old mid × step (near r k) (slice_index r.row k) mid next) at (last, new, before, here)
-    ]
+too_long_apart : (tables : List (List ℤ)) → IsApart (ReadsSample tables) (IsTooLong tables)
+too_long_apart tables n sample old new reads (next, late) = sample_or_none tables n sample old new next reads late
 
 row_or_late : (tables : List (List ℤ)) (above2 above row other : List ℕ) (old new : Coding) → length row ≡ length other
     → InRow (ReadsSample tables) (rows above2 above row) (length row) old new → TooLongInRow tables (rows above2 above other) old → ⊥
 row_or_late tables above2 above row other old new len done late =
-    let x : ℕ = late.column in
-    let here = up_to (ReadsSample tables) (rows above2 above row) x (length row) old new (omega (arith, len, late.within)) done in
-    let so_far = one_row_to tables above2 above row other x old here.0 late.mid here.2 late.before in
-    let at : near (rows above2 above other) x ≡ near (rows above2 above row) x = near_same above2 above row other x so_far.0 in
-    let none_at : difference_at late.mid (context tables (near (rows above2 above row) x)) ≡ (None, late.new) = subst (λ (n : Near). difference_at late.mid (context tables n) ≡ (None, late.new)) at late.too_long in
-    sample_or_none tables (near (rows above2 above row) x) (slice_index row x) late.mid here.1 late.new
-    (subst (λ (c : Coding). ReadsSample tables (near (rows above2 above row) x) (slice_index row x) c here.1) so_far.1 here.3) none_at
+    row_or_stuck (ReadsSample tables) (IsTooLong tables) (one_sample tables) (too_long_apart tables) above2 above row other late.column old late.mid new
+    (omega (arith, len, late.within)) done late.before (late.new, late.too_long)
 
 -- ---- a plane
--- All rows have a width.
-abbrev AreWide : ℕ → List (List ℕ) → Type 0
-AreWide width plane = (y : ℕ) → y < length plane → length (slice_index_or plane y []) ≡ width
-
 one_plane : (tables : List (List ℤ)) (width : ℕ) (above2 above : List ℕ) (plane other : List (List ℕ)) (old new end : Coding)
     → AreWide width plane → AreWide width other → length plane ≡ length other
     → InRows (ReadsSample tables) (rows_below above2 above plane) old new → InRows (ReadsSample tables) (rows_below above2 above other) old end → (plane ≡ other) × (new ≡ end)
@@ -94,7 +51,7 @@ one_plane tables width above2 above [] [] old new end wide broad len first secon
 one_plane tables width above2 above [] (r ∷ rest) old new end wide broad len first second = absurd (omega arith)
 one_plane tables width above2 above (row ∷ more) [] old new end wide broad len first second = absurd (omega arith)
 one_plane tables width above2 above (row ∷ more) (r ∷ rest) old new end wide broad len (mid, here, left) (next, now, others) =
-    let one = one_row tables above2 above row r old mid next (wide 0 (omega arith) ∙ sym (broad 0 (omega arith))) here now in
+    let one = one_row (ReadsSample tables) (one_sample tables) above2 above row r old mid next (wide 0 (omega arith) ∙ sym (broad 0 (omega arith))) here now in
     let from_mid : InRows (ReadsSample tables) (rows_below above r rest) mid end = subst (λ (c : Coding). InRows (ReadsSample tables) (rows_below above r rest) c end) (sym one.1) others in
     let below_row : InRows (ReadsSample tables) (rows_below above row rest) mid end = subst (λ (a : List ℕ). InRows (ReadsSample tables) (rows_below above a rest) mid end) (sym one.0) from_mid in
     let all = one_plane tables width above row more rest mid new end (λ y lt. wide (suc y) (omega arith)) (λ y lt. broad (suc y) (omega arith)) (omega arith) left below_row in
@@ -109,16 +66,10 @@ plane_or_late tables width above2 above (row ∷ more) [] old new wide broad few
 plane_or_late tables width above2 above (row ∷ more) (r ∷ rest) old new wide broad few (mid, here, left) (inl late) =
     row_or_late tables above2 above row r old mid (wide 0 (omega arith) ∙ sym (broad 0 (omega arith))) here late
 plane_or_late tables width above2 above (row ∷ more) (r ∷ rest) old new wide broad few (mid, here, left) (inr (next, now, late)) =
-    let one = one_row tables above2 above row r old mid next (wide 0 (omega arith) ∙ sym (broad 0 (omega arith))) here now in
+    let one = one_row (ReadsSample tables) (one_sample tables) above2 above row r old mid next (wide 0 (omega arith) ∙ sym (broad 0 (omega arith))) here now in
     let from_mid : TooLongInRows tables (rows_below above r rest) mid = subst (λ (c : Coding). TooLongInRows tables (rows_below above r rest) c) (sym one.1) late in
     let below_row : TooLongInRows tables (rows_below above row rest) mid = subst (λ (a : List ℕ). TooLongInRows tables (rows_below above a rest) mid) (sym one.0) from_mid in
     plane_or_late tables width above row more rest mid new (λ y lt. wide (suc y) (omega arith)) (λ y lt. broad (suc y) (omega arith)) (omega arith) left below_row
-
-plane_wide : (width height : ℕ) (plane : List (List ℕ)) → IsPlane width height plane → AreWide width plane
-plane_wide width height plane sizes y lt = (sizes.rows y (omega (arith, sizes.len, lt))).len
-
-front_wide : (width height : ℕ) (plane : List (List ℕ)) → IsFront width height plane → AreWide width plane
-front_wide width height plane sizes y lt = (sizes.each y lt).len
 
 -- ---- areas
 one_area : (tables : List (List ℤ)) (area : Area) (old x y : Decoding) → ReadsArea tables area old x → ReadsArea tables area old y → x ≡ y
