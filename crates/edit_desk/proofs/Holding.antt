@@ -21,7 +21,8 @@ use Rattle.render_core.specs.Step.{Setup, IsLegal, step, reply, after, AreLegal,
 use Rattle.render_core.proofs.Claims.{claim_lasts}
 use Rattle.render_core.proofs.Journals.{legal_rest, after_rest}
 use Rattle.edit_desk.specs.Desk.{DeskOf, IsDesk, Hears, setup_of, state_of, heard}
-use Rattle.edit_desk.proofs.Heard.{heard_more, desk_is}
+use Rattle.edit_desk.proofs.Heard.{heard_more}
+use Rattle.edit_desk.proofs.Later.{desk_is}
 
 -- None of the calls is such an act.
 abbrev pub HasNone : {F : Type 0} → (Act → Type 0) → List (CallOf F) → Type 0
