@@ -74,7 +74,7 @@ class BitWriter:
 
 
 class State:
-    """What a context has seen of its values (RFC 9043 section 3.8.2.5)."""
+    """What a context has seen of its values (RFC 9043 sections 3.8.2.3 and 3.8.2.4)."""
 
     __slots__ = ("drift", "error_sum", "bias", "count")
 
