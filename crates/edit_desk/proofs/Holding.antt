@@ -98,22 +98,22 @@ module _ {M K F : Type 0} (library : M → Library F) where
   own_heard : (old new : DeskOf M K) (calls : List (CallOf F)) (h : Hears library old new calls) → own_calls old.fixed.number (calls_from (setup_of library old) (0 + length old.seen) h.more (state_of library old)) ≡ calls
   own_heard old new calls h =
       append_cancel_left (heard library old) (own_calls old.fixed.number (calls_from (setup_of library old) (0 + length old.seen) h.more (state_of library old))) calls
-      (sym (ap (heard library) (desk_is library old new h.more h.fixed h.seen) ∙ heard_more library old h.more) ∙ h.heard)
+      (sym (ap (heard library) (desk_is old new h.more h.fixed h.seen) ∙ heard_more library old h.more) ∙ h.heard)
 
   legal_there : (old new : DeskOf M K) (calls : List (CallOf F)) (h : Hears library old new calls) → IsDesk library new → IsJournal (setup_of library old) (old.seen ++ h.more)
-  legal_there old new calls h known = subst (λ (d : DeskOf M K). IsJournal (setup_of library d) d.seen) (desk_is library old new h.more h.fixed h.seen) known.legal
+  legal_there old new calls h known = subst (λ (d : DeskOf M K). IsJournal (setup_of library d) d.seen) (desk_is old new h.more h.fixed h.seen) known.legal
 
   -- a job that the caller holds stays held until the caller ends it, whatever others enter
   pub holds_hears : (old new : DeskOf M K) (calls : List (CallOf F)) (n : ℕ) (recipe : Recipe) → IsDesk library new → Hears library old new calls → HasNone (EndsJob n) calls → Holds (state_of library old) old.fixed.number n recipe → Holds (state_of library new) new.fixed.number n recipe
   holds_hears old new calls n recipe known h none held =
       let ends = ends_none (EndsJob n) (setup_of library old) old.fixed.number (0 + length old.seen) h.more (state_of library old) (subst (HasNone (EndsJob n)) (sym (own_heard old new calls h)) none) in
-      subst (λ (d : DeskOf M K). Holds (state_of library d) d.fixed.number n recipe) (sym (desk_is library old new h.more h.fixed h.seen))
+      subst (λ (d : DeskOf M K). Holds (state_of library d) d.fixed.number n recipe) (sym (desk_is old new h.more h.fixed h.seen))
       (claim_lasts (setup_of library old) old.seen h.more old.fixed.number n recipe (legal_there old new calls h known) held ends)
 
   -- a session whose caller 0 makes no stop isn't stopped
   pub goes_on : (old new : DeskOf M K) (calls : List (CallOf F)) → IsDesk library new → Hears library old new calls → HasNone IsStop calls → old.fixed.number ≡ 0 → (state_of library old).is_stopped ≡ false → (state_of library new).is_stopped ≡ false
   goes_on old new calls known h none zero going =
       let ends = ends_none IsStop (setup_of library old) old.fixed.number (0 + length old.seen) h.more (state_of library old) (subst (HasNone IsStop) (sym (own_heard old new calls h)) none) in
-      ap (λ (d : DeskOf M K). (state_of library d).is_stopped) (desk_is library old new h.more h.fixed h.seen)
+      ap (λ (d : DeskOf M K). (state_of library d).is_stopped) (desk_is old new h.more h.fixed h.seen)
       ∙ ap (λ (s : State). s.is_stopped) (after_rest (setup_of library old) 0 old.seen h.more start)
       ∙ going_after (setup_of library old) (0 + length old.seen) h.more (state_of library old) (legal_rest (setup_of library old) 0 old.seen h.more start (legal_there old new calls h known)) (subst (λ (p : ℕ). EndsNone IsStop p h.more) zero ends) going
