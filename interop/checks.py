@@ -8,6 +8,7 @@ from pathlib import Path
 from bad import check_bad_input
 from demo import check_demo
 from each_byte import check_each_byte
+from frames import check_frames, check_reader
 from good import check_clips
 from ids import check_ids
 from kept import check_kept
@@ -23,6 +24,8 @@ PARTS = {
     "bad": check_bad_input,
     "kept": check_kept,
     "bytes": check_each_byte,
+    "ffv1": check_reader,
+    "frames": check_frames,
 }
 
 

@@ -11,6 +11,7 @@ use Rattle.render_core.specs.State.{start}
 use Rattle.render_core.specs.Step.{Reply, reply}
 use Rattle.render_core.specs.Calls.{CallOf, calls_from, calls_of, own_calls}
 use Rattle.render_core.proofs.Journals.{calls-append, own_calls-others}
+use Rattle.edit_desk.proofs.Later.{desk_is}
 use Rattle.edit_desk.specs.Desk.{FixedOf, DeskOf, Learns, Enters, Hears, setup_of, state_of, heard}
 
 -- a call of a pass is its own
@@ -22,13 +23,10 @@ own_call {F} number what told =
 
 module _ {M K F : Type 0} (library : M → Library F) where
   -- what is heard of a longer list
-  heard_more : (d : DeskOf M K) (more : List Entry) → heard library (record d { seen = d.seen ++ more }) ≡ heard library d ++ own_calls d.fixed.number (calls_from (setup_of library d) (0 + length d.seen) more (state_of library d))
+  pub heard_more : (d : DeskOf M K) (more : List Entry) → heard library (record d { seen = d.seen ++ more }) ≡ heard library d ++ own_calls d.fixed.number (calls_from (setup_of library d) (0 + length d.seen) more (state_of library d))
   heard_more d more =
       ap (own_calls d.fixed.number) (calls-append (setup_of library d) 0 d.seen more start)
       ∙ filter-append (λ (call : CallOf F). call.pass == d.fixed.number) (calls_of (setup_of library d) d.seen) (calls_from (setup_of library d) (0 + length d.seen) more (state_of library d))
-
-  desk_is : (old new : DeskOf M K) (more : List Entry) → new.fixed ≡ old.fixed → new.seen ≡ old.seen ++ more → new ≡ record old { seen = old.seen ++ more }
-  desk_is old new more f s = ap (λ (x : FixedOf M K). record new { fixed = x }) f ∙ ap (λ (es : List Entry). record old { seen = es }) s
 
   pub hears_learns : (old new : DeskOf M K) → Learns old new → Hears library old new []
   hears_learns old new l = record {

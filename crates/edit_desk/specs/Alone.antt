@@ -1,5 +1,5 @@
 -- A board with its library, as what its one caller knows.
-use Rattle.std.specs.Prelude.{◌≡◌, Result, Ok, Err}
+use Rattle.std.specs.Prelude.{◌≡◌, ℕ, Result, Ok, Err}
 use Rattle.tl_model.specs.Media.{Library}
 use Rattle.tl_model.specs.declared.recipe.Recipe.{Recipe}
 use Rattle.render_core.specs.declared.reply.Full.{Full}
@@ -9,9 +9,13 @@ use Rattle.render_core.specs.Board.{BoardOf, of_show}
 use Rattle.render_core.specs.Step.{Reply, Render}
 use Rattle.edit_desk.specs.Desk.{DeskOf, with_render}
 
+-- A caller with this number has seen the whole journal, and keeps this beside.
+abbrev pub at_board : {M K : Type 0} → (number : ℕ) → K → BoardOf M → DeskOf M K
+at_board number kept b = record { fixed = record { number = number; library = b.library; cache = b.cache; limit = b.limit; kept = kept }; seen = b.journal }
+
 -- Caller 0 has seen the whole journal.
 abbrev pub desk_of : {M : Type 0} → BoardOf M → DeskOf M (Unit {0})
-desk_of b = record { fixed = record { number = 0; library = b.library; cache = b.cache; limit = b.limit; kept = tt }; seen = b.journal }
+desk_of b = at_board 0 tt b
 
 -- What was told, with the render of a recipe that is to be rendered. Only there can memory be wanting.
 abbrev pub Renders : {F : Type 0} → Library F → (told : Reply F) → Result (ShowReply F) Full → Type 0

@@ -1,3 +1,4 @@
 pub mod Desk
+pub mod Was
 pub mod Alone
 pub mod Blanks

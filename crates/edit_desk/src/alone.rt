@@ -141,7 +141,7 @@ impl<M: Media + Drop, L: Lane> Desk for Alone<M, L> {
             Ok(given) => given,
             Err(why) => return Err(why),
         };
-        rendered(alloc, &self.media, given)
+        answer_show(alloc, &self.media, given)
     }
 
     fn ask_export(&mut self, alloc: Global, name: &Name) -> Result<AskReply, Full> {
@@ -169,8 +169,8 @@ impl<M: Media + Drop, L: Lane> Desk for Alone<M, L> {
     }
 }
 
-/// A show's answer with the render of a recipe that is to be rendered.
-fn rendered<M: Media>(
+/// A show's answer, with the render of a recipe that is to be rendered. Only there can memory be wanting.
+pub fn answer_show<M: Media>(
     alloc: Global,
     media: &M,
     given: ShowReply<M::Frame>,

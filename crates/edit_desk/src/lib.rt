@@ -4,7 +4,7 @@
 mod alone;
 mod desk;
 
-pub use alone::Alone;
+pub use alone::{Alone, answer_show};
 pub use desk::Desk;
 
 #[cfg(test)]

@@ -32,14 +32,9 @@ fn decoded(
     if !record.suits(shape) {
         return Ok(None);
     }
-    match record.coder() {
-        Coder::Rice => Ok(None),
-        Coder::Range => {
-            let picture = decode_frame(alloc, record, shape, packet)?;
-            let samples = samples_of(alloc, &picture)?;
-            Ok(Some(samples))
-        }
-    }
+    let picture = decode_frame(alloc, record, shape, packet)?;
+    let samples = samples_of(alloc, &picture)?;
+    Ok(Some(samples))
 }
 
 // The fault of a packet.

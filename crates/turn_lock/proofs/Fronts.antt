@@ -50,6 +50,30 @@ pub entries_stay : (mine number : ℕ) (log more : List Entry) → All (λ e. e.
 entries_stay mine number log more all other =
     entries-append number log more ∙ ap (λ l. entries_of number log ++ l) (entries_other mine number more all other) ∙ append-nil (entries_of number log)
 
+none_left : (xs ys : List Entry) → xs ++ ys ≡ [] → xs ≡ []
+none_left [] ys e = refl
+none_left (x ∷ xs) ys e = absurd cc
+
+none_after : (xs ys zs : List Entry) → xs ≡ (xs ++ ys) ++ zs → ys ≡ []
+none_after [] ys zs e = none_left ys zs (sym e)
+none_after (x ∷ xs) ys zs e = let tail : xs ≡ (xs ++ ys) ++ zs = cc in none_after xs ys zs tail
+
+-- a list without entries of a number has no front with some
+pub entries_front_none : (number : ℕ) (front log : List Entry) → IsFront front log → entries_of number log ≡ [] → entries_of number front ≡ []
+entries_front_none number front log f none =
+    none_left (entries_of number front) (entries_of number f.0) (sym (entries-append number front f.0) ∙ ap (entries_of number) (sym f.1) ∙ none)
+
+-- where a front has all entries of a number, so has a longer one
+entries_between : (number : ℕ) (a b log : List Entry) → IsFront a b → IsFront b log → entries_of number a ≡ entries_of number log → entries_of number b ≡ entries_of number log
+entries_between number a b log f g own =
+    let mid : entries_of number b ≡ entries_of number a ++ entries_of number f.0 = ap (entries_of number) f.1 ∙ entries-append number a f.0 in
+    let whole : entries_of number log ≡ entries_of number b ++ entries_of number g.0 = ap (entries_of number) g.1 ∙ entries-append number b g.0 in
+    let nothing : entries_of number f.0 ≡ [] = none_after (entries_of number a) (entries_of number f.0) (entries_of number g.0) (own ∙ whole ∙ ap (λ l. l ++ entries_of number g.0) mid) in
+    mid ∙ ap (λ l. entries_of number a ++ l) nothing ∙ append-nil (entries_of number a) ∙ own
+
+pub entries-longer : (number : ℕ) (a b log : List Entry) → IsFront (longer a b) log → IsFront (shorter a b) log → entries_of number a ≡ entries_of number log → entries_of number (longer a b) ≡ entries_of number log
+entries-longer number a b log f g own = entries_between number a (longer a b) log (fronts_of_longer a b log f g).0 f own
+
 -- what two lists were is a front of the longer, where both were compared with one list
 pub fronts_after : (a b p q seen behind after : List Entry) → seen ≡ longer a b → behind ≡ shorter a b → after ≡ seen → a ≡ p → b ≡ q → (log : List Entry) × IsFront seen log × IsFront behind log
     → IsFront p after × IsFront q after

@@ -66,7 +66,8 @@ module _ {B : Type 0} (tells : Telling B) (start : B) where
               );
             };
             fits = each_set (λ i u. Fits start r.log r.made u) s.views id w
-                (fits_seen tells start r.log r.made v (tells.entries f.value) v.behind (2 * length (tells.entries f.value)) true named fit (subst (λ l. IsFront l r.log) (sym f.list) (front_self r.log)) fit.behind)
+                (fits_seen tells start r.log r.made v (tells.entries f.value) v.behind (2 * length (tells.entries f.value)) true named fit (subst (λ l. IsFront l r.log) (sym f.list) (front_self r.log)) fit.behind
+                (ap (λ l. entries_of v.number l) f.list ∙ sym n.own))
                 (λ i u _ there. r.fits i u there);
             apart = apart_of s.views (set s.views id w) passes r.apart;
             ended = ended_of s.views (set s.views id w) passes names r.ended;
@@ -101,7 +102,7 @@ module _ {B : Type 0} (tells : Telling B) (start : B) where
           keeps,
           tt,
           subst (λ k. Rule (stepped s 0 k id me.1 w keeps)) (sym same)
-              (rule_unmoved tells start s id me.1 w (rule_set tells start s r id v w at free free (λ _. (named, refl)) (λ e has. has) (fits_seen tells start r.log r.made v v.seen v.behind word v.holds named fit fit.seen fit.behind))),
+              (rule_unmoved tells start s id me.1 w (rule_set tells start s r id v w at free free (λ _. (named, refl)) (λ e has. has) (fits_seen tells start r.log r.made v v.seen v.behind word v.holds named fit fit.seen fit.behind n.seen_own))),
           ((λ even. absurd (omega arith)), (λ _. (refl, meets_for v r.log v.seen n.starts fit.seen r.meets))),
         )
 
@@ -110,7 +111,7 @@ module _ {B : Type 0} (tells : Telling B) (start : B) where
 
     pub compares_ok : (slots id : ℕ) (me : Sat) → me.0.named ≡ true → Allows Rule slots id me 0 (λ n. n) (compares tells (step slots 0 0 0 none) me)
     compares_ok slots id me named s r _ at _ = let fit = r.fits id me.0 at in let n = fit.named named in
-        (me.0, keeps, tt, rule_still tells start s r id me at, (refl, (r.log, fit.seen, fit.behind), meets_for me.0 r.log me.0.seen n.starts fit.seen r.meets))
+        (me.0, keeps, tt, rule_still tells start s r id me at, (refl, (r.log, fit.seen, fit.behind), meets_for me.0 r.log me.0.seen n.starts fit.seen r.meets, n.seen_own))
 
     abbrev Looked : St → ℕ → ℕ → Sat → Type 0
     Looked s slots id me =
@@ -129,7 +130,7 @@ module _ {B : Type 0} (tells : Telling B) (start : B) where
       w,
       keeps,
       tt,
-      rule_unmoved tells start s id me.1 w (rule_set tells start s r id v w at free free (λ _. (named, refl)) (λ e has. has) (fits_seen tells start r.log r.made v r.log v.behind v.word v.holds named fit (front_self r.log) fit.behind)),
+      rule_unmoved tells start s id me.1 w (rule_set tells start s r id v w at free free (λ _. (named, refl)) (λ e has. has) (fits_seen tells start r.log r.made v r.log v.behind v.word v.holds named fit (front_self r.log) fit.behind (sym n.own))),
       (r.log, refl, half_word tells start s r, fit.seen, sym n.own, (λ holds. absurd (true≢false (sym holds ∙ free))), meets_for v r.log r.log n.starts (front_self r.log) r.meets),
     )
 
@@ -148,6 +149,7 @@ module _ {B : Type 0} (tells : Telling B) (start : B) where
       numbered = n.numbered;
       counts = n.counts;
       own = n.own ∙ sym (entries_stay number u.number log more all (apart named));
+      seen_own = n.seen_own;
       joined = λ e has. let j = n.joined e has in (j.0, j.1, j.2 ∙ sym (entries_stay number e.number log more all (ended e has)));
     };
     nameless = f.nameless;
@@ -202,6 +204,7 @@ module _ {B : Type 0} (tells : Telling B) (start : B) where
                   numbered = n.numbered;
                   counts = n.counts;
                   own = refl;
+                  seen_own = refl;
                   joined = λ e in_it. let j = n.joined e in_it in
                       (j.0, j.1, j.2 ∙ sym (ap (entries_of e.number) list ∙ entries_stay number e.number r.log more all (λ is. r.ended id id v v at at named e in_it (sym is))));
                 };

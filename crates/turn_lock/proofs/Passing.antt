@@ -6,10 +6,10 @@ use Rattle.atomic_table.proofs.Lists.{set_again, set_here, set_else}
 use Rattle.tl_model.specs.declared.journal.Entry.{Entry}
 use Rattle.turn_lock.specs.declared.view.Joined.{Joined}
 use Rattle.turn_lock.specs.declared.view.View.{View}
-use Rattle.turn_lock.specs.Entries.{entries_of, longer, shorter}
+use Rattle.turn_lock.specs.Entries.{entries_of, IsFront, longer, shorter}
 use Rattle.turn_lock.specs.Views.{as_joined, split_from, split_off, note_of, with_seen, with_joined, spent}
 use Rattle.turn_lock.specs.Rule.{Telling, IsAt, Fits, IsTurn}
-use Rattle.turn_lock.proofs.Fronts.{either_front}
+use Rattle.turn_lock.proofs.Fronts.{either_front, entries_front_none, entries-longer}
 use Rattle.turn_lock.proofs.Places.{at_inside, same_at, contains_none, each_set, each_end, ArePassesOf, apart_of, ended_of, passes_set, joined_set, contains_first_or, apart_end, ended_end, holder_set, holder_end, holder_then}
 use Rattle.turn_lock.proofs.Rules.{shown, one_up, named_or, turn_shown, rule_set, rule_end, fits_seen}
 
@@ -58,6 +58,7 @@ module _ {B : Type 0} (tells : Telling B) (start : B) where
       numbered = let b = n.numbered in omega arith;
       counts = λ is. absurd (not_main named is);
       own = n.own;
+      seen_own = n.seen_own;
       joined = λ e has. let j = n.joined e has in let b = j.1 in (j.0, omega arith, j.2);
     };
     nameless = f.nameless;
@@ -93,6 +94,7 @@ module _ {B : Type 0} (tells : Telling B) (start : B) where
                 numbered = omega arith;
                 counts = λ is. absurd (omega arith);
                 own = sym (r.beyond (v.made + 1) (omega arith));
+                seen_own = entries_front_none (v.made + 1) v.seen r.log fit.seen (r.beyond (v.made + 1) (omega arith));
                 joined = λ e has. absurd (contains_none e [] refl has);
               };
               nameless = λ not. absurd (true≢false (sym named ∙ not));
@@ -107,6 +109,7 @@ module _ {B : Type 0} (tells : Telling B) (start : B) where
                 numbered = let b = n.numbered in omega arith;
                 counts = λ _. ap (λ k. k + 1) makes;
                 own = n.own;
+                seen_own = n.seen_own;
                 joined = λ e has. let j = n.joined e has in let b = j.1 in (j.0, omega arith, j.2);
               };
               nameless = λ not. absurd (true≢false (sym named ∙ not));
@@ -126,6 +129,12 @@ module _ {B : Type 0} (tells : Telling B) (start : B) where
     nameless = λ _. (refl, refl, refl);
   }
 
+  -- of two fronts the longer has all of a pass's entries
+  saw_own : (log : List Entry) (v w : View B) → v.mine ≡ entries_of v.number log → entries_of v.number v.seen ≡ v.mine → IsFront v.seen log → IsFront w.seen log → entries_of v.number (longer v.seen w.seen) ≡ v.mine
+  saw_own log v w own saw front front' =
+      entries-longer v.number v.seen w.seen log (either_front w.seen v.seen log (ltb (length v.seen) (length w.seen)) front' front)
+      (either_front v.seen w.seen log (ltb (length v.seen) (length w.seen)) front front') (saw ∙ own) ∙ sym own
+
   pub takes_note_ok : (id : ℕ) (v : View B) (other : ℕ) (w : View B) → v.named ≡ true → v.holds ≡ false → w.named ≡ false → Joins Rule id v other w (with_seen v w) spent
   takes_note_ok id v other w named free nameless s r at apart there =
       let there' : IsAt s.views other w = sym (set_else s.views id other (with_seen v w) apart) ∙ there in
@@ -134,7 +143,7 @@ module _ {B : Type 0} (tells : Telling B) (start : B) where
       let free_w = fit_w.nameless nameless in
       let first = rule_set tells start s r id v (with_seen v w) at free free (λ _. (named, refl)) (λ e has. has)
       (fits_seen tells start r.log r.made v (longer v.seen w.seen) (shorter v.seen w.seen) v.word v.holds named fit
-      (either_front w.seen v.seen r.log (ltb (length v.seen) (length w.seen)) fit_w.seen fit.seen) (either_front v.seen w.seen r.log (ltb (length v.seen) (length w.seen)) fit.seen fit_w.seen)) in
+      (either_front w.seen v.seen r.log (ltb (length v.seen) (length w.seen)) fit_w.seen fit.seen) (either_front v.seen w.seen r.log (ltb (length v.seen) (length w.seen)) fit.seen fit_w.seen) (saw_own r.log v w (fit.named named).own (fit.named named).seen_own fit.seen fit_w.seen)) in
       rule_set tells start (shown s (set s.views id (with_seen v w))) first other w spent there free_w.0 refl (λ is. absurd (true≢false (sym is))) (λ e has. absurd (contains_none e [] refl has)) (spent_fits first.log first.made)
 
   pub joins_ok : (id : ℕ) (v : View B) (other : ℕ) (w : View B) → v.named ≡ true → v.holds ≡ false → w.named ≡ true → w.holds ≡ false → w.number ≢ 0 → Joins Rule id v other w (with_joined v w) spent
@@ -166,6 +175,7 @@ module _ {B : Type 0} (tells : Telling B) (start : B) where
                 numbered = n.numbered;
                 counts = n.counts;
                 own = n.own;
+                seen_own = saw_own r.log v w n.own n.seen_own fit.seen fit_w.seen;
                 joined = λ e has. joined_both v w (λ e. (1 ≤ e.number) × (e.number ≤ r.made) × (e.own ≡ entries_of e.number r.log)) n.joined m.joined (one_up w.number not_main, m.numbered, m.own) e has;
               };
               nameless = λ not. absurd (true≢false (sym named ∙ not));

@@ -8,7 +8,7 @@ use Rattle.atomic_table.proofs.Lists.{set_again}
 use Rattle.tl_model.specs.declared.journal.Entry.{Entry}
 use Rattle.turn_lock.specs.declared.view.Joined.{Joined}
 use Rattle.turn_lock.specs.declared.view.View.{View}
-use Rattle.turn_lock.specs.Entries.{IsFront}
+use Rattle.turn_lock.specs.Entries.{entries_of, IsFront}
 use Rattle.turn_lock.specs.Rule.{Telling, IsAt, Fits, AreApart, AreEnded, IsFree, IsTaken, IsTurn}
 use Rattle.turn_lock.proofs.Places.{same_at, each_set, each_end, apart_of, ended_of, passes_set, joined_set, passes_end, joined_end, HaveOneHolder, holder_set, holder_end, none_holds_of, holds_of}
 
@@ -88,12 +88,12 @@ module _ {B : Type 0} (tells : Telling B) (start : B) where
 
   -- what a pass has seen, and what it names, may change as long as both are fronts of the list
   pub fits_seen : (log : List Entry) (made : ℕ) (v : View B) (seen behind : List Entry) (word : ℕ) (holds : Bool) → v.named ≡ true → Fits start log made v → IsFront seen log → IsFront behind log
-      → Fits start log made record v { seen = seen; behind = behind; word = word; holds = holds }
-  fits_seen log made v seen behind word holds named f front front' = let n = f.named named in record {
+      → entries_of v.number seen ≡ v.mine → Fits start log made record v { seen = seen; behind = behind; word = word; holds = holds }
+  fits_seen log made v seen behind word holds named f front front' saw = let n = f.named named in record {
     seen = front;
     behind = front';
     starts = f.starts;
-    named = λ _. record { starts = n.starts; numbered = n.numbered; counts = n.counts; own = n.own; joined = n.joined };
+    named = λ _. record { starts = n.starts; numbered = n.numbered; counts = n.counts; own = n.own; seen_own = saw; joined = n.joined };
     nameless = λ not. absurd (true≢false (sym named ∙ not));
   }
 

@@ -20,12 +20,13 @@ abbrev pub IsAt : {B : Type 0} → List (View B) → ℕ → View B → Type 0
 IsAt views place v = get_elem? views place ≡ some v
 
 module _ {B : Type 0} where
-  -- a named view knows the start, its own entries, and those of each pass that was joined into it
+  -- a named view knows the start, its own entries, which it has seen, and those of each pass that was joined into it
   pub record IsNamed (start : B) (log : List Entry) (made : ℕ) (v : View B) : Type 0 where
     pub starts : v.start ≡ Some start
     pub numbered : v.number ≤ made
     pub counts : v.number ≡ 0 → v.made ≡ made
     pub own : v.mine ≡ entries_of v.number log
+    pub seen_own : entries_of v.number v.seen ≡ v.mine
     pub joined : (j : Joined) → Contains v.joined j → (1 ≤ j.number) × (j.number ≤ made) × (j.own ≡ entries_of j.number log)
 
   -- what a view has seen is a front of the list; one without a number holds nothing and has no entries

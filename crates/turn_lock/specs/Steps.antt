@@ -47,8 +47,8 @@ module _ {B : Type 0} (tells : Telling B) where
       × (after ≡ (with_look log before.0, before.1)) × (length log ≡ word / 2) × IsFront before.0.seen log
       × (entries_of before.0.number log ≡ before.0.mine) × (before.0.holds ≡ true → log ≡ before.0.seen) × MeetsFor before.0 log
 
-  -- a look that changes nothing tells that the lists of the last join are fronts of one list
+  -- a look that changes nothing tells that the lists of the last join are fronts of one list, and that the view has seen its own entries
   abbrev pub compares : Step (Option B) → Sat B → ℕ → Sat B → Type 0
   compares step before word after =
       (after ≡ before) × ((log : List Entry) × IsFront before.0.seen log × IsFront before.0.behind log)
-      × MeetsFor before.0 before.0.seen
+      × MeetsFor before.0 before.0.seen × (entries_of before.0.number before.0.seen ≡ before.0.mine)

@@ -145,8 +145,11 @@ impl<B: Journaled> Turn<B> {
         requires few { pass.old.made + 1 < 2 ^ 32 }
         ensures made { pass.new ≡ record pass.old { made = pass.old.made + 1 } }
         ensures given { result ≡ pass_from pass.new }
+        ensures own { entries_of result.number result.seen ≡ [] }
     {
-        let seat = self.table.shared.split_seat::<Pair>(&mut pass.seat);
+        let shared = &self.table.shared;
+        let mut seat = shared.split_seat::<Pair>(&mut pass.seat);
+        shared.load::<Compare>(&mut seat, 0);
         pass.made += 1;
         Pass {
             number: pass.made,
@@ -163,6 +166,7 @@ impl<B: Journaled> Turn<B> {
         requires not_main { other.number ≢ 0 }
         ensures joined { HasJoined pass.old other pass.new }
         ensures extends { IsFront pass.old.seen pass.new.seen × IsFront other.seen pass.new.seen }
+        ensures own { entries_of pass.old.number pass.new.seen ≡ pass.old.own }
         ensures meets { B.meets (B.fixed self.now.start) pass.new.seen }
     {
         let Pass {
@@ -191,6 +195,7 @@ impl<B: Journaled> Turn<B> {
         requires free { pass.old.holds ≡ false }
         ensures told { pass.new ≡ record pass.old { seen = longer pass.old.seen note.seen } }
         ensures extends { IsFront pass.old.seen pass.new.seen × IsFront note.seen pass.new.seen }
+        ensures own { entries_of pass.old.number pass.new.seen ≡ pass.old.own }
         ensures meets { B.meets (B.fixed self.now.start) pass.new.seen }
     {
         let Note { seat } = note;

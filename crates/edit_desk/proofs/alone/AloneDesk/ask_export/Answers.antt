@@ -9,4 +9,4 @@ use Rattle.edit_desk.proofs.alone.AloneDesk.ask_export.Goals as goal
 pub returns : goal.returns
 returns g c =
     subst (λ (d : DeskOf _ _). Answers g.M.Media.library d (desk_of c.ask_export.new.self) (record { act = act.Ask c.args.name.now; view = of_ask }) c.ask_export.result) c.self.view_is
-    (does_answers g.M.Media.library c.self.inside.board c.ask_export.new.self (record { pass = 0; act = act.Ask c.args.name.now; view = of_ask }) c.ask_export.result refl c.ask_export.ensures.done)
+    (does_answers g.M.Media.library 0 tt c.self.inside.board c.ask_export.new.self (record { pass = 0; act = act.Ask c.args.name.now; view = of_ask }) c.ask_export.result refl c.ask_export.ensures.done)

@@ -7,4 +7,4 @@ use Rattle.edit_desk.proofs.alone.AloneDesk.claim.Goals as goal
 pub returns-clause-found : goal.returns-clause-found
 returns-clause-found g c =
     subst (λ (d : DeskOf _ _). Finds g.M.Media.library d (desk_of c.claim.new.self) c.claim.result) c.self.view_is
-    (claims_finds g.M.Media.library c.self.inside.board c.claim.new.self c.claim.result c.claim.ensures.done)
+    (claims_finds g.M.Media.library 0 tt c.self.inside.board c.claim.new.self c.claim.result c.claim.ensures.done)

@@ -9,4 +9,4 @@ use Rattle.edit_desk.proofs.alone.AloneDesk.edit.Goals as goal
 pub returns : goal.returns
 returns g c =
     subst (λ (d : DeskOf _ _). Answers g.M.Media.library d (desk_of c.edit.new.self) (record { act = act.Edit c.args.edit.now; view = of_edit }) c.edit.result) c.self.view_is
-    (does_answers g.M.Media.library c.self.inside.board c.edit.new.self (record { pass = 0; act = act.Edit c.args.edit.now; view = of_edit }) c.edit.result refl c.edit.ensures.done)
+    (does_answers g.M.Media.library 0 tt c.self.inside.board c.edit.new.self (record { pass = 0; act = act.Edit c.args.edit.now; view = of_edit }) c.edit.result refl c.edit.ensures.done)

@@ -7,4 +7,4 @@ use Rattle.edit_desk.proofs.alone.AloneDesk.file.Goals as goal
 pub returns-clause-told : goal.returns-clause-told
 returns-clause-told g c =
     subst (λ (d : DeskOf _ _). Files g.M.Media.library d (desk_of c.file.new.self) (c.args.claim, c.args.rendered) c.file.result) c.self.view_is
-    (files g.M.Media.library c.self.inside.board c.file.new.self c.args.claim c.args.rendered c.file.result c.file.ensures.done)
+    (files g.M.Media.library 0 tt c.self.inside.board c.file.new.self c.args.claim c.args.rendered c.file.result c.file.ensures.done)

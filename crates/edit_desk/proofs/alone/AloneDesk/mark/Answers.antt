@@ -9,4 +9,4 @@ use Rattle.edit_desk.proofs.alone.AloneDesk.mark.Goals as goal
 pub returns : goal.returns
 returns g c =
     subst (λ (d : DeskOf _ _). Answers g.M.Media.library d (desk_of c.mark.new.self) (record { act = act.Mark c.args.turns; view = of_done }) c.mark.result) c.self.view_is
-    (does_answers g.M.Media.library c.self.inside.board c.mark.new.self (record { pass = 0; act = act.Mark c.args.turns; view = of_done }) c.mark.result refl c.mark.ensures.done)
+    (does_answers g.M.Media.library 0 tt c.self.inside.board c.mark.new.self (record { pass = 0; act = act.Mark c.args.turns; view = of_done }) c.mark.result refl c.mark.ensures.done)

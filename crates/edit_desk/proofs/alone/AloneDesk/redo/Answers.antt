@@ -9,4 +9,4 @@ use Rattle.edit_desk.proofs.alone.AloneDesk.redo.Goals as goal
 pub returns : goal.returns
 returns g c =
     subst (λ (d : DeskOf _ _). Answers g.M.Media.library d (desk_of c.redo.new.self) (record { act = act.Redo; view = of_edit }) c.redo.result) c.self.view_is
-    (does_answers g.M.Media.library c.self.inside.board c.redo.new.self (record { pass = 0; act = act.Redo; view = of_edit }) c.redo.result refl c.redo.ensures.done)
+    (does_answers g.M.Media.library 0 tt c.self.inside.board c.redo.new.self (record { pass = 0; act = act.Redo; view = of_edit }) c.redo.result refl c.redo.ensures.done)

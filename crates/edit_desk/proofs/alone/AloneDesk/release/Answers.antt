@@ -9,4 +9,4 @@ use Rattle.edit_desk.proofs.alone.AloneDesk.release.Goals as goal
 pub returns : goal.returns
 returns g c =
     subst (λ (d : DeskOf _ _). Enters g.M.Media.library d (desk_of c.release.new.self) (act.Release c.args.claim.job) (of_release c.release.result)) c.self.view_is
-    (makes_enters g.M.Media.library c.self.inside.board c.release.new.self (act.Release c.args.claim.job) (of_release c.release.result) c.release.ensures.made)
+    (makes_enters g.M.Media.library 0 tt c.self.inside.board c.release.new.self (act.Release c.args.claim.job) (of_release c.release.result) c.release.ensures.made)

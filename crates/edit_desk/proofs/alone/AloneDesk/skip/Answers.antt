@@ -9,4 +9,4 @@ use Rattle.edit_desk.proofs.alone.AloneDesk.skip.Goals as goal
 pub returns : goal.returns
 returns g c =
     subst (λ (d : DeskOf _ _). Answers g.M.Media.library d (desk_of c.skip.new.self) (record { act = act.Skip; view = of_done }) c.skip.result) c.self.view_is
-    (does_answers g.M.Media.library c.self.inside.board c.skip.new.self (record { pass = 0; act = act.Skip; view = of_done }) c.skip.result refl c.skip.ensures.done)
+    (does_answers g.M.Media.library 0 tt c.self.inside.board c.skip.new.self (record { pass = 0; act = act.Skip; view = of_done }) c.skip.result refl c.skip.ensures.done)

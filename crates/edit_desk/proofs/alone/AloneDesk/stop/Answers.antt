@@ -9,4 +9,4 @@ use Rattle.edit_desk.proofs.alone.AloneDesk.stop.Goals as goal
 pub returns : goal.returns
 returns g c =
     subst (λ (d : DeskOf _ _). Enters g.M.Media.library d (desk_of c.stop.new.self) (act.Stop) (of_done tt)) c.self.view_is
-    (makes_enters g.M.Media.library c.self.inside.board c.stop.new.self (act.Stop) (of_done tt) c.stop.ensures.made)
+    (makes_enters g.M.Media.library 0 tt c.self.inside.board c.stop.new.self (act.Stop) (of_done tt) c.stop.ensures.made)

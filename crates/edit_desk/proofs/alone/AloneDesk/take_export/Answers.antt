@@ -7,4 +7,4 @@ use Rattle.edit_desk.proofs.alone.AloneDesk.take_export.Goals as goal
 pub returns-clause-found : goal.returns-clause-found
 returns-clause-found g c =
     subst (λ (d : DeskOf _ _). Takes g.M.Media.library d (desk_of c.take_export.new.self) c.take_export.result) c.self.view_is
-    (takes_takes g.M.Media.library c.self.inside.board c.take_export.new.self c.take_export.result c.take_export.ensures.done)
+    (takes_takes g.M.Media.library 0 tt c.self.inside.board c.take_export.new.self c.take_export.result c.take_export.ensures.done)

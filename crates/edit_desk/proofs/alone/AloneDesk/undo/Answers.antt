@@ -9,4 +9,4 @@ use Rattle.edit_desk.proofs.alone.AloneDesk.undo.Goals as goal
 pub returns : goal.returns
 returns g c =
     subst (λ (d : DeskOf _ _). Answers g.M.Media.library d (desk_of c.undo.new.self) (record { act = act.Undo; view = of_edit }) c.undo.result) c.self.view_is
-    (does_answers g.M.Media.library c.self.inside.board c.undo.new.self (record { pass = 0; act = act.Undo; view = of_edit }) c.undo.result refl c.undo.ensures.done)
+    (does_answers g.M.Media.library 0 tt c.self.inside.board c.undo.new.self (record { pass = 0; act = act.Undo; view = of_edit }) c.undo.result refl c.undo.ensures.done)

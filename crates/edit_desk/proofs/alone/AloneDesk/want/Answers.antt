@@ -9,4 +9,4 @@ use Rattle.edit_desk.proofs.alone.AloneDesk.want.Goals as goal
 pub returns : goal.returns
 returns g c =
     subst (λ (d : DeskOf _ _). Answers g.M.Media.library d (desk_of c.want.new.self) (record { act = act.Want c.args.first c.args.len; view = of_want }) c.want.result) c.self.view_is
-    (does_answers g.M.Media.library c.self.inside.board c.want.new.self (record { pass = 0; act = act.Want c.args.first c.args.len; view = of_want }) c.want.result refl c.want.ensures.done)
+    (does_answers g.M.Media.library 0 tt c.self.inside.board c.want.new.self (record { pass = 0; act = act.Want c.args.first c.args.len; view = of_want }) c.want.result refl c.want.ensures.done)

@@ -1,0 +1,4 @@
+pub mod Packets
+pub mod Parts
+pub mod Timeline
+pub mod Endings

@@ -1,0 +1,16 @@
+use Rattle.std.specs.Prelude.{Ok}
+use Rattle.std.proofs.Common.{◌≡◌, ◌+◌, length, take}
+use Rattle.tl_ports.specs.Outside.{KeepsBegun}
+use Rattle.tl_model.specs.Cells.{cells_of, recipes}
+use Rattle.smart_export.specs.Puts.{frames_on, PutsFrames}
+use Rattle.smart_export.proofs.sequence.put_segment.Given as goal
+
+abbrev pub invariant-loop-i : goal.invariant-loop-i
+invariant-loop-i g l =
+    let V = g.V.Vault in
+    record {
+      put : PutsFrames V.tells (V.seen l.vault).held (frames_on (g.M.Media.library l.media) (take l.i (recipes (cells_of l.segment))) l.fn.writer) l.writer (Ok tt);
+      place : length l.writer.packets ≡ l.first + l.i;
+      kept : KeepsBegun V.tells (V.seen l.fn.vault) (V.seen l.vault);
+      calm : (V.seen l.vault).faults ≡ (V.seen l.fn.vault).faults;
+    }

@@ -1,0 +1,4 @@
+pub mod Rendered
+pub mod Ends
+pub mod Stop
+pub mod Puts

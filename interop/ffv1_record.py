@@ -1,0 +1,182 @@
+"""Reads FFV1 configuration records, and writes those of an own encoder: docs/FORMATS.md "The configuration record", anew."""
+
+from typing import List, NamedTuple, Sequence
+
+from ffv1_bits import (
+    DEFAULT_ONE_STATE,
+    DEFAULT_TRANSITION,
+    RangeReader,
+    RangeWriter,
+    SymbolTooLong,
+    Transition,
+    fresh_set,
+    parity,
+    transition_of,
+)
+
+RICE, RANGE, RANGE_WITH_TABLE = 0, 1, 2
+VERSION, MICRO_VERSION = 3, 4
+LEAST_BYTES, PARITY_BYTES = 6, 4
+MOST_SLICES, MOST_SETS, MOST_SCALE, MOST_SHIFT = 1024, 8, 32_768, 2
+HALF_TABLE, TABLES = 128, 5
+OWN_RUNS = ((1, 2, 4, 16, 105),) * 3 + ((128,),) * 2
+
+
+class RecordFault(Exception):
+    """The first fault of a record: the name of the rule that it breaks."""
+
+
+class TableSet(NamedTuple):
+    """Five quantization tables of 256 entries, and the number of contexts that they give."""
+
+    tables: Sequence[Sequence[int]]
+    contexts: int
+
+
+class Shape(NamedTuple):
+    """The chroma of pictures: without chroma the shifts are 0."""
+
+    has_chroma: bool
+    shift_across: int = 0
+    shift_down: int = 0
+
+
+class Parameters(NamedTuple):
+    """What a record tells of its packets."""
+
+    coder: int
+    transition: Transition
+    shape: Shape
+    columns: int
+    rows: int
+    sets: Sequence[TableSet]
+    has_parity: bool
+    intra: int
+
+
+class Fields:
+    """Reads a record's fields by one set of states."""
+
+    def __init__(self, part: bytes):
+        self.reader, self.states = RangeReader(part), fresh_set()
+
+    def number(self) -> int:
+        return self.reader.symbol(self.states)
+
+    def signed(self) -> int:
+        return self.reader.symbol(self.states, signed=True)
+
+    def bit(self) -> bool:
+        return bool(self.reader.bit(self.states, 0))
+
+
+def need(is_met: bool, fault: str):
+    if not is_met:
+        raise RecordFault(fault)
+
+
+def read_record(record: bytes) -> Parameters:
+    """What the record tells, or `RecordFault` with its first fault."""
+    need(len(record) >= LEAST_BYTES, "Short")
+    need(parity(record) == 0, "Parity")
+    try:
+        return read_fields(Fields(record[:-PARITY_BYTES]))
+    except SymbolTooLong:
+        raise RecordFault("Symbol") from None
+
+
+def read_fields(fields: Fields) -> Parameters:
+    version, micro_version = fields.number(), fields.number()
+    need(version == VERSION, "Version")
+    need(micro_version == MICRO_VERSION, "Micro")
+    coder = fields.number()
+    need(coder <= RANGE_WITH_TABLE, "Coder")
+    transition = read_transition(fields) if coder == RANGE_WITH_TABLE else DEFAULT_TRANSITION
+    color, depth = fields.number(), fields.number()
+    need(color == 0, "Color")
+    need(depth in (0, 8), "Depth")
+    shape = read_shape(fields)
+    columns, rows = fields.number() + 1, fields.number() + 1
+    need(columns * rows <= MOST_SLICES, "Slices")
+    set_count = fields.number()
+    need(1 <= set_count <= MOST_SETS, "Tables")
+    sets = [read_set(fields.reader) for _ in range(set_count)]
+    for _ in sets:
+        need(not fields.bit(), "InitialStates")
+    error_correction, intra = fields.number(), fields.number()
+    need(error_correction <= 1, "Ec")
+    return Parameters(coder, transition, shape, columns, rows, sets, error_correction == 1, intra)
+
+
+def read_transition(fields: Fields) -> Transition:
+    one_state = [0]
+    for usual in DEFAULT_ONE_STATE[1:]:
+        one_state.append(usual + fields.signed())
+        need(1 <= one_state[-1] <= 255, "Transition")
+    return transition_of(one_state)
+
+
+def read_shape(fields: Fields) -> Shape:
+    has_chroma, across, down, has_extra = fields.bit(), fields.number(), fields.number(), fields.bit()
+    need(not has_chroma or max(across, down) <= MOST_SHIFT, "Subsample")
+    need(not has_extra, "ExtraPlane")
+    return Shape(True, across, down) if has_chroma else Shape(False)
+
+
+def read_set(reader: RangeReader) -> TableSet:
+    scale, tables = 1, []
+    for _ in range(TABLES):
+        runs = read_runs(reader)
+        tables.append(table_of(runs, scale))
+        scale *= 2 * len(runs) - 1
+        need(scale <= MOST_SCALE, "Tables")
+    return TableSet(tables, (scale + 1) // 2)
+
+
+def read_runs(reader: RangeReader) -> List[int]:
+    states, runs, left = fresh_set(), [], HALF_TABLE
+    while left:
+        runs.append(reader.symbol(states) + 1)
+        left -= runs[-1]
+        need(left >= 0, "Tables")
+    return runs
+
+
+def table_of(runs: Sequence[int], scale: int) -> List[int]:
+    """Entry 256 - k is minus entry k, and entry 128 minus entry 127."""
+    half = [scale * run for run, length in enumerate(runs) for _ in range(length)]
+    return [*half, -half[-1], *(-it for it in reversed(half[1:]))]
+
+
+def own_parameters(shape: Shape, coder: int, columns: int, rows: int) -> Parameters:
+    """The record of an own encoder, as parameters."""
+    tables, scale = [], 1
+    for runs in OWN_RUNS:
+        tables.append(table_of(runs, scale))
+        scale *= 2 * len(runs) - 1
+    sets = [TableSet(tables, (scale + 1) // 2)]
+    return Parameters(coder, DEFAULT_TRANSITION, shape, columns, rows, sets, True, 1)
+
+
+def own_record(own: Parameters) -> bytes:
+    """The bytes of such a record."""
+    writer, states = RangeWriter(), fresh_set()
+    number = lambda value: writer.symbol(states, value)
+    bit = lambda value: writer.bit(states, 0, value)
+    for value in (VERSION, MICRO_VERSION, own.coder, 0, 8):
+        number(value)
+    bit(own.shape.has_chroma)
+    number(own.shape.shift_across)
+    number(own.shape.shift_down)
+    bit(0)
+    for value in (own.columns - 1, own.rows - 1, len(own.sets)):
+        number(value)
+    for runs in OWN_RUNS:
+        run_states = fresh_set()
+        for length in runs:
+            writer.symbol(run_states, length - 1)
+    bit(0)
+    number(int(own.has_parity))
+    number(own.intra)
+    part = writer.finish()
+    return part + parity(part).to_bytes(PARITY_BYTES, "big")
