@@ -18,11 +18,13 @@ use Rattle.ffv1_slice.specs.Cells.{areas_of}
 use Rattle.ffv1_slice.specs.Slice as slices
 use Rattle.ffv1_slice.proofs.ExistsHeader.{header_exists}
 use Rattle.ffv1_slice.proofs.ExistsSlice.{slice_exists}
+use Rattle.ffv1_golomb.specs.Slice.{sample_bytes}
+use Rattle.ffv1_golomb.proofs.ExistsSlice as rice
 use Rattle.tl_model.specs.declared.fault.FrameFault.{FrameFault}
 use Rattle.tl_model.specs.declared.fault.FrameFault.TheVariants.{Empty, Chain, Parity, NotKey, Cover}
 use Rattle.ffv1_frame.specs.Packet.{Slice, EndsWith, IsSlice, HasParity, no_slice, bytes_of, footer_length}
 use Rattle.ffv1_frame.specs.Cover.{AreCovered, IsUncovered, cover_count}
-use Rattle.ffv1_frame.specs.Frame.{Gives, HaveParities, keyframe, reader_at, AreSlices, IsKeyFrame, HeaderGives, no_header, AreHeaders, HaveHeaders, grid_of, header_fault_of, slice_fault_of, slice_by, SliceGives, DecodesTo, IsWhole}
+use Rattle.ffv1_frame.specs.Frame.{Gives, HaveParities, keyframe, reader_at, AreSlices, IsKeyFrame, HeaderGives, no_header, AreHeaders, HaveHeaders, grid_of, header_fault_of, slice_fault_of, slice_by, SamplesGive, SliceGives, DecodesTo, IsWhole}
 use Rattle.ffv1_frame.specs.Law.{told}
 use Rattle.ffv1_frame.proofs.Chains.{take-split, span-IsSlice, no_room, AreFound, none_found, one_found, all_found, not_found}
 use Rattle.ffv1_frame.proofs.Frames.{no_headers, one_header, bad_header}
@@ -166,9 +168,13 @@ samples_given : (p : Parameters) (shape : Layout) (i : ℕ) (slice : Slice) (bef
 samples_given p shape i slice before image (Ok u) gives = inl (image, gives)
 samples_given p shape i slice before image (Err fault) gives = inr (image, fault, gives)
 
+samples_exist : (coder : ℕ) (s : slices.Slice) (content : List ℕ) (at : slices.Standing) → (image : Image) × (result : Result (⊤) SliceFault) × SamplesGive coder s content at image result
+samples_exist zero s content at = rice.slice_exists s (sample_bytes content at.reading) at.image
+samples_exist (suc coder) s content at = slice_exists s (length content) at
+
 samples_of : (p : Parameters) (shape : Layout) (i : ℕ) (slice : Slice) (before : Image) (h : Header) (reading : Reading) → HeaderGives p i slice reading (Ok h) → SampledOne p shape i slice before
 samples_of p shape i slice before h reading header =
-    let here = slice_exists (slice_by p h (areas_of (grid_of p) shape h)) (length slice.content) (slices.standing reading before) in
+    let here = samples_exist p.coder_type (slice_by p h (areas_of (grid_of p) shape h)) slice.content (slices.standing reading before) in
     samples_given p shape i slice before here.0 here.1 (h, reading, header, here.2)
 
 -- All slices are decoded, or the samples of one have a fault.

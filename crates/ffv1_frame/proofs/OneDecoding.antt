@@ -16,11 +16,13 @@ use Rattle.ffv1_slice.specs.Cells.{areas_of}
 use Rattle.ffv1_slice.specs.Slice as slices
 use Rattle.ffv1_slice.proofs.OneHeader.{one_header, one_place}
 use Rattle.ffv1_slice.proofs.OneSlice.{one_slice, one_image}
+use Rattle.ffv1_golomb.specs.Slice.{sample_bytes}
+use Rattle.ffv1_golomb.proofs.OneSlice as rice
 use Rattle.tl_model.specs.declared.fault.FrameFault.{FrameFault}
 use Rattle.tl_model.specs.declared.fault.FrameFault.TheVariants.{Parity, Cover}
 use Rattle.ffv1_frame.specs.Packet.{Slice, EndsWith, IsSlice, HasParity, no_slice, bytes_of}
 use Rattle.ffv1_frame.specs.Cover.{IsUncovered}
-use Rattle.ffv1_frame.specs.Frame.{Gives, HaveParities, reader_at, HeaderGives, no_header, AreHeaders, grid_of, header_fault_of, slice_fault_of, slice_by, SliceGives, DecodesTo}
+use Rattle.ffv1_frame.specs.Frame.{Gives, HaveParities, reader_at, HeaderGives, no_header, AreHeaders, grid_of, header_fault_of, slice_fault_of, slice_by, SamplesGive, SliceGives, DecodesTo}
 use Rattle.ffv1_frame.specs.Law.{told}
 use Rattle.ffv1_frame.proofs.Chains.{same_last}
 use Rattle.ffv1_frame.proofs.Stages.{IsWrong, IsFaulty, IsStuck, OfSamples, OfCells, OfKeyFrame, OfParities, OfSlices, OfBytes, OfPacket, stages}
@@ -120,24 +122,35 @@ one_uncovered columns rows headers a b first second =
     ]
 
 -- ---- the samples
-same_start : (p : Parameters) (shape : Layout) (h g : Header) (count : ℕ) (reading other : Reading) (before image : Image) (result : Result (⊤) SliceFault) → h ≡ g → reading ≡ other
-    → slices.Gives (slice_by p g (areas_of (grid_of p) shape g)) count (slices.standing other before) image result
-    → slices.Gives (slice_by p h (areas_of (grid_of p) shape h)) count (slices.standing reading before) image result
-same_start p shape h g count reading other before image result same at gives =
-    subst (λ (k : Header). slices.Gives (slice_by p k (areas_of (grid_of p) shape k)) count (slices.standing reading before) image result) (sym same)
-    (subst (λ (r : Reading). slices.Gives (slice_by p g (areas_of (grid_of p) shape g)) count (slices.standing r before) image result) (sym at) gives)
+one_answer : (coder : ℕ) (s : slices.Slice) (content : List ℕ) (at : slices.Standing) (x y : Image) (a b : Result (⊤) SliceFault)
+    → SamplesGive coder s content at x a → SamplesGive coder s content at y b → a ≡ b
+one_answer zero s content at x y a b first second = rice.one_slice s (sample_bytes content at.reading) at.image x y a b first second
+one_answer (suc coder) s content at x y a b first second = one_slice s (length content) at x y a b first second
+
+same_image : (coder : ℕ) (s : slices.Slice) (content : List ℕ) (at : slices.Standing) (x y : Image)
+    → SamplesGive coder s content at x (Ok tt) → SamplesGive coder s content at y (Ok tt) → x ≡ y
+same_image zero s content at x y first second = rice.one_image s (sample_bytes content at.reading) at.image x y first second
+same_image (suc coder) s content at x y first second = one_image s (length content) at x y first second
+
+-- What a header and a reader behind it give, at those that stand for them.
+same_start : (p : Parameters) (shape : Layout) (h g : Header) (content : List ℕ) (reading other : Reading) (before image : Image) (result : Result (⊤) SliceFault) → h ≡ g → reading ≡ other
+    → SamplesGive p.coder_type (slice_by p g (areas_of (grid_of p) shape g)) content (slices.standing other before) image result
+    → SamplesGive p.coder_type (slice_by p h (areas_of (grid_of p) shape h)) content (slices.standing reading before) image result
+same_start p shape h g content reading other before image result same at gives =
+    subst (λ (k : Header). SamplesGive p.coder_type (slice_by p k (areas_of (grid_of p) shape k)) content (slices.standing reading before) image result) (sym same)
+    (subst (λ (r : Reading). SamplesGive p.coder_type (slice_by p g (areas_of (grid_of p) shape g)) content (slices.standing r before) image result) (sym at) gives)
 
 one_samples : (p : Parameters) (shape : Layout) (i : ℕ) (slice : Slice) (before x y : Image) (a b : Result (⊤) SliceFault)
     → SliceGives p shape i slice before x a → SliceGives p shape i slice before y b → a ≡ b
 one_samples p shape i slice before x y a b (h, reading, header, gives) (g, other, its, given) =
-    one_slice (slice_by p h (areas_of (grid_of p) shape h)) (length slice.content) (slices.standing reading before) x y a b gives
-    (same_start p shape h g (length slice.content) reading other before y b (same_header p i slice reading other h g header its) (same_place p i slice reading other h g header its) given)
+    one_answer p.coder_type (slice_by p h (areas_of (grid_of p) shape h)) slice.content (slices.standing reading before) x y a b gives
+    (same_start p shape h g slice.content reading other before y b (same_header p i slice reading other h g header its) (same_place p i slice reading other h g header its) given)
 
 one_picture : (p : Parameters) (shape : Layout) (i : ℕ) (slice : Slice) (before x y : Image)
     → SliceGives p shape i slice before x (Ok tt) → SliceGives p shape i slice before y (Ok tt) → x ≡ y
 one_picture p shape i slice before x y (h, reading, header, gives) (g, other, its, given) =
-    one_image (slice_by p h (areas_of (grid_of p) shape h)) (length slice.content) (slices.standing reading before) x y gives
-    (same_start p shape h g (length slice.content) reading other before y (Ok tt) (same_header p i slice reading other h g header its) (same_place p i slice reading other h g header its) given)
+    same_image p.coder_type (slice_by p h (areas_of (grid_of p) shape h)) slice.content (slices.standing reading before) x y gives
+    (same_start p shape h g slice.content reading other before y (Ok tt) (same_header p i slice reading other h g header its) (same_place p i slice reading other h g header its) given)
 
 one_decoded : (p : Parameters) (shape : Layout) (all : List Slice) (n : ℕ) (x y : Image) → DecodesTo p shape all n x → DecodesTo p shape all n y → x ≡ y
 one_decoded p shape all zero x y first second = first ∙ sym second
