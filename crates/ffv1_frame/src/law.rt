@@ -10,7 +10,8 @@ ghost use Rattle.ffv1_frame.specs.Law.{told};
 /// Tells, in a proof, that each packet decodes to exactly one picture or fault, whatever the record, the shape and the bytes are.
 /// It does nothing.
 pub fn one_decoding()
-    ensures some { (p : Parameters) (shape : Layout) (packet : List ℕ) → (result : Result Image FrameFault) × Gives p shape packet (told result) }
+    ensures some { (p : Parameters) (shape : Layout) (packet : List ℕ)
+        → (result : Result Image FrameFault) × Gives p shape packet (told result) }
     ensures one { (p : Parameters) (shape : Layout) (packet : List ℕ) (a b : Result Image FrameFault)
         → Gives p shape packet (told a) → Gives p shape packet (told b) → a ≡ b }
 {}
