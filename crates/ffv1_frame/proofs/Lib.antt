@@ -1,3 +1,11 @@
 pub mod Chains
 pub mod Frames
 pub mod SliceSteps
+pub mod Packets
+pub mod Writings
+pub mod Passages
+pub mod SamplesBack
+pub mod SlicesBack
+pub mod ContentsBack
+pub mod Pasting
+pub mod Covering

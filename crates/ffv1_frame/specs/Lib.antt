@@ -1,3 +1,4 @@
 pub mod Packet
 pub mod Cover
 pub mod Frame
+pub mod Written

@@ -4,12 +4,16 @@
 mod chain;
 mod cover;
 mod decode;
+mod encode;
 mod fault;
 mod frame;
 mod samples;
+mod written;
 
 pub use decode::decode_frame;
+pub use encode::encode_frame;
 pub use fault::DecodeFault;
+pub use written::writes_one_packet;
 
 #[cfg(test)]
 mod tests;
