@@ -1,27 +1,24 @@
 -- The content of a slice that was written is read: the bit of the key frame, the header, and the samples.
-use Rattle.std.proofs.Common.{◌≡◌, ℕ, zero, suc, ◌+◌, ◌-◌, ◌*◌, ◌/◌, ◌%◌, ◌^◌, ◌<◌, ◌≤◌, min, Bool, true, false, eqb, ℤ, List, [], ◌∷◌, ◌++◌, length, replicate, Ok, refl, sym, ◌∙◌, ap, subst, arith, append-nil}
-use Rattle.std.specs.Prelude.{slice_index}
+use Rattle.std.proofs.Common.{◌≡◌, ℕ, ◌+◌, ◌*◌, ◌/◌, ◌%◌, ◌^◌, ◌<◌, ◌≤◌, Bool, true, false, eqb, List, [], ◌∷◌, length, replicate, Ok, refl, sym, ◌∙◌, ap, subst, arith, append-nil}
 use Rattle.std.specs.List.{AllByRecursion}
 use Rattle.std.proofs.lemmas.Nat.{mod_below, div_below}
 use Rattle.std.proofs.lemmas.List.{length-map}
 use Rattle.std.proofs.Math.Nat.{mul-le-mul_left, mul-le-mul_right}
-use Rattle.pic_planes.specs.Shape.{Layout}
 use Rattle.pic_planes.specs.Picture.{Image, IsPicture}
-use Rattle.ffv1_range.specs.Transition.{IsTransition, AllKept}
+use Rattle.ffv1_range.specs.Transition.{IsTransition}
 use Rattle.ffv1_range.specs.Reading.{Reading, opened, bit_of, after_bit, after_bits}
-use Rattle.ffv1_range.specs.Writing.{Writing, started, put, put_all, part, with_sentinel}
+use Rattle.ffv1_range.specs.Writing.{Writing, started, part, with_sentinel}
 use Rattle.ffv1_range.specs.Symbol.{source}
 use Rattle.ffv1_range.specs.Law.{states_of, written, ReadsBack, ReadsSentinel}
 use Rattle.ffv1_range.proofs.Part.{sentinel_read}
 use Rattle.ffv1_record.specs.Parameters.{Parameters, IsRecord}
 use Rattle.ffv1_record.specs.Tables.{TableSet}
-use Rattle.ffv1_record.proofs.Again.{Stands}
 use Rattle.ffv1_record.proofs.Sinks.{put_all-table}
 use Rattle.ffv1_record.proofs.States.{fresh-kept}
 use Rattle.ffv1_record.proofs.Round.{put-count, length-part}
 use Rattle.ffv1_slice.specs.Header.{Numbering, numbering, with_numbers, ReadsNumbers}
 use Rattle.ffv1_slice.specs.Slice as slices
-use Rattle.ffv1_frame.specs.Frame.{grid_of, reader_at, HeaderGives}
+use Rattle.ffv1_frame.specs.Frame.{reader_at, HeaderGives}
 use Rattle.ffv1_frame.specs.Written.{cell_header, content_start, header_written, cell_slice, WritesContent, slice_of}
 use Rattle.ffv1_frame.proofs.Passages.{Passage, nothing_passed, read_as, both_passed, bit_passed, numbers_passed}
 use Rattle.ffv1_frame.proofs.SlicesBack.{IsPart, SliceInto, after_slice, slice_back}

@@ -9,3 +9,6 @@ pub mod SlicesBack
 pub mod ContentsBack
 pub mod Pasting
 pub mod Covering
+pub mod PacketsBack
+pub mod Cells
+pub mod PictureBack

@@ -1,16 +1,16 @@
 -- What is written between two places is read back between two places.
-use Rattle.std.proofs.Common.{◌≡◌, ℕ, ◌+◌, ◌^◌, ◌<◌, Bool, true, false, ℤ, pos, nat_abs, List, [], ◌∷◌, ◌++◌, Some, refl, sym, ◌∙◌, ap, subst}
+use Rattle.std.proofs.Common.{◌≡◌, ℕ, ◌^◌, ◌<◌, Bool, false, ℤ, pos, List, [], ◌∷◌, ◌++◌, Some, refl, sym, ◌∙◌, ap, subst}
 use Rattle.std.specs.List.{AllByRecursion}
 use Rattle.ffv1_range.specs.Transition.{IsTransition, AllKept}
 use Rattle.ffv1_range.specs.Reading.{Reading, bit_of, after_bit, after_bits}
 use Rattle.ffv1_range.specs.Writing.{Writing, put, put_all, AreStates}
-use Rattle.ffv1_range.specs.Symbol.{Source, source, Reads, spelling, symbol_at, with_states, set_after}
-use Rattle.ffv1_range.specs.Law.{states_of, bits_of, IsSpelled}
+use Rattle.ffv1_range.specs.Symbol.{source, Reads, spelling, symbol_at, with_states, set_after}
+use Rattle.ffv1_range.specs.Law.{states_of, IsSpelled}
 use Rattle.ffv1_range.proofs.Symbols.{codes_in_turn, reads_symbols}
 use Rattle.ffv1_record.proofs.Sinks.{put_all-append, put_all-table}
 use Rattle.ffv1_record.proofs.Again.{Stands, Stands-append, after_bits-table}
 use Rattle.ffv1_record.proofs.States.{spelling-places, with_states-states, set_after-kept, AreStates-append}
-use Rattle.ffv1_slice.specs.Header.{Numbering, ReadsUpTo, ReadsNumbers, with_number, with_numbers}
+use Rattle.ffv1_slice.specs.Header.{Numbering, ReadsNumbers, with_number, with_numbers}
 
 -- Bits lead from one writing to another, and where a reader of the table has them before it, it reads them so.
 pub record Passage (table : List ℕ) (old new : Writing) (Read : Reading → Reading → Type 0) : Type 0 where

@@ -1,27 +1,25 @@
 -- The samples of a slice that were written are read.
-use Rattle.std.proofs.Common.{◌≡◌, ℕ, zero, suc, ◌+◌, ◌-◌, ◌%◌, ◌^◌, ◌<◌, ◌≤◌, min, Bool, true, false, ℤ, pos, negsuc, ◌+ℤ◌, ◌-ℤ◌, nat_abs, List, [], ◌∷◌, length, replicate, set, get_or, Some, refl, sym, ◌∙◌, ap, subst, arith}
-use Rattle.std.specs.Prelude.{slice_index, slice_index_or, slice_set, All}
+use Rattle.std.proofs.Common.{◌≡◌, ℕ, zero, suc, ◌+◌, ◌-◌, ◌%◌, ◌^◌, ◌<◌, min, true, ℤ, pos, negsuc, ◌+ℤ◌, ◌-ℤ◌, nat_abs, List, [], ◌∷◌, length, Some, sym, ◌∙◌, ap, subst, arith}
+use Rattle.std.specs.Prelude.{slice_index, slice_set, All}
 use Rattle.std.specs.Int.{int_rem_euclid}
 use Rattle.std.specs.List.{AllByRecursion}
 use Rattle.std.proofs.lemmas.Int.{ints}
 use Rattle.std.proofs.lemmas.Nat.{mod_below}
-use Rattle.std.proofs.lemmas.List.{length-set, length-replicate, get_or-replicate, get_or_past}
+use Rattle.std.proofs.lemmas.List.{length-set}
 use Rattle.std.proofs.lemmas.List.Elements.{All-get_or, All-set}
-use Rattle.pic_planes.specs.Picture.{Image, IsRow, IsPlane}
-use Rattle.tl_base.specs.Arithmetic.{folded}
 use Rattle.ffv1_range.specs.Transition.{IsTransition, AllKept}
 use Rattle.ffv1_range.specs.Reading.{Reading}
-use Rattle.ffv1_range.specs.Writing.{Writing, put_all}
-use Rattle.ffv1_range.specs.Symbol.{Source, source, spelling, symbol_at, with_states, set_after}
+use Rattle.ffv1_range.specs.Writing.{put_all}
+use Rattle.ffv1_range.specs.Symbol.{source, spelling, symbol_at, with_states, set_after}
 use Rattle.ffv1_predict.specs.declared.near.Near.{Near}
 use Rattle.ffv1_predict.specs.Near.{context, coded, turned, predicted, IsNear}
-use Rattle.ffv1_predict.specs.Border.{Rows, rows, rows_below, near, left, left2, right}
+use Rattle.ffv1_predict.specs.Border.{Rows, rows_below, near, left, left2}
 use Rattle.ffv1_predict.proofs.Restoring.{restored_back}
 use Rattle.ffv1_record.proofs.Sinks.{put_all-table}
 use Rattle.ffv1_record.proofs.States.{spelling-places, set_after-kept}
 use Rattle.ffv1_slice.specs.Order.{InRow, InRows}
-use Rattle.ffv1_slice.specs.Reading.{Coding, coding, set_of, after_symbol, difference_at, ReadsSample, ContextsFit}
-use Rattle.ffv1_slice.specs.Writing.{Encoding, encoding, with_difference, WritesSample}
+use Rattle.ffv1_slice.specs.Reading.{Coding, coding, set_of, after_symbol, ReadsSample, ContextsFit}
+use Rattle.ffv1_slice.specs.Writing.{Encoding, with_difference, WritesSample}
 use Rattle.ffv1_frame.proofs.Passages.{Passage, nothing_passed, read_as, at_writing, both_passed, symbol_passed}
 
 -- ---- a sample

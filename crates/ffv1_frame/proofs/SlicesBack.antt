@@ -1,12 +1,12 @@
 -- The samples of a slice that were written are read into a picture.
-use Rattle.std.proofs.Common.{◌≡◌, ℕ, zero, suc, ◌+◌, ◌-◌, ◌<◌, ◌≤◌, ℤ, List, [], ◌∷◌, length, take, drop, replicate, get_or, refl, sym, ◌∙◌, ap, subst, arith, inl, inr}
-use Rattle.std.specs.Prelude.{slice_index, slice_index_or, All}
+use Rattle.std.proofs.Common.{◌≡◌, ℕ, zero, suc, ◌+◌, ◌<◌, ◌≤◌, ℤ, List, [], ◌∷◌, length, take, drop, replicate, refl, ap, subst, arith, inl, inr}
+use Rattle.std.specs.Prelude.{slice_index_or}
 use Rattle.std.specs.List.{AllByRecursion}
 use Rattle.std.proofs.lemmas.Bool.{cases_lt}
 use Rattle.std.proofs.lemmas.List.{length-replicate, length-take-le, length-take, length-drop, get_or-replicate, get_or-take, get_or-drop, get_or_past}
 use Rattle.pic_planes.specs.Shape.{Layout, plane_count, plane_width, plane_height}
 use Rattle.pic_planes.specs.Picture.{Image, row_of, IsRow, IsPlane, IsPicture}
-use Rattle.ffv1_range.specs.Transition.{IsTransition, AllKept}
+use Rattle.ffv1_range.specs.Transition.{IsTransition}
 use Rattle.ffv1_range.specs.Reading.{Reading}
 use Rattle.ffv1_range.specs.Writing.{Writing}
 use Rattle.ffv1_predict.specs.Border.{rows_of_plane}
@@ -15,8 +15,8 @@ use Rattle.ffv1_slice.specs.declared.area.Area.{Area}
 use Rattle.ffv1_slice.specs.Area.{IsWithin, below, with_rows}
 use Rattle.ffv1_slice.specs.Order.{InRows}
 use Rattle.ffv1_slice.specs.Reading.{coding, ReadsSample, ContextsFit}
-use Rattle.ffv1_slice.specs.Slice.{Part, Slice, Decoding, decoding, Standing, standing, ReadsArea, ReadsAreas, ReadsPart, ReadsSlice, fresh_contexts}
-use Rattle.ffv1_slice.specs.Writing.{Encoding, encoding, WritesSample, first_samples, samples_from, samples, WritesAreas, WritesPart, WritesSlice}
+use Rattle.ffv1_slice.specs.Slice.{Part, Slice, decoding, standing, ReadsAreas, ReadsPart, ReadsSlice, fresh_contexts}
+use Rattle.ffv1_slice.specs.Writing.{Encoding, encoding, first_samples, samples_from, samples, WritesAreas, WritesPart, WritesSlice}
 use Rattle.ffv1_slice.proofs.InTurn.{fresh_kept}
 use Rattle.ffv1_frame.proofs.Passages.{Passage, nothing_passed, read_as, both_passed}
 use Rattle.ffv1_frame.proofs.SamplesBack.{IsGood, AreSamples, rows_back, rows_are}

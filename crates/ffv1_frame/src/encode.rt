@@ -1,19 +1,20 @@
 //! Encoding a picture to its packet. RFC 9043 sections 4.4 to 4.9.
-ghost use Rattle.std.specs.Prelude.{◌≡◌, ◌≢◌, ℕ, ◌+◌, ◌*◌, ◌/◌, ◌%◌, ◌^◌, ◌<◌, ◌≤◌, ◌++◌, IfOk, OnOk, if◌then◌else◌, ◌==◌, drop, length, replicate, vec_len};
+ghost use Rattle.std.specs.Prelude.{◌≡◌, ◌≢◌, ℕ, ◌+◌, ◌*◌, ◌/◌, ◌%◌, ◌^◌, ◌<◌, ◌≤◌, ◌++◌, IfOk, OnOk, Ok, if◌then◌else◌, ◌==◌, drop, length, replicate, vec_len};
 ghost use Rattle.byteorder.specs.Endian.{big_bytes};
-ghost use Rattle.tl_limits.specs.Limits.{max_slice_bytes};
+ghost use Rattle.tl_limits.specs.Limits.{max_slice_bytes, max_packet_bytes};
 ghost use Rattle.tl_base.specs.Parity.{parity};
 ghost use Rattle.ffv1_range.specs.Transition.{AllKept};
 ghost use Rattle.ffv1_record.specs.Parameters.{tables_of, context_count_of};
 ghost use Rattle.ffv1_record.specs.Suits.{Suits};
 ghost use Rattle.ffv1_slice.specs.Cells.{IsInGrid};
 ghost use Rattle.ffv1_slice.specs.Header.{with_header};
-ghost use Rattle.ffv1_frame.specs.Frame.{grid_of};
+ghost use Rattle.ffv1_frame.specs.Frame.{Gives, grid_of};
 ghost use Rattle.ffv1_frame.specs.Packet.{bytes_of};
 ghost use Rattle.ffv1_frame.specs.Written.{Encodes, Writes, WritesContent, cell_header, content_start, slice_of, items_of};
 
 use crate::frame::grid_of;
 use crate::samples::{most_contexts, quantization, tables_of};
+use crate::written::written_is_read_back;
 use ffv1_range::{RangeWriter, Transition};
 use ffv1_record::{Record, Tables};
 use ffv1_slice::{Header, Scratch, encode_slice, write_header};
@@ -25,7 +26,7 @@ use tl_model::EncodeFault;
 
 /// Encodes a picture that suits the record to a packet: a key frame with one slice for each cell of the grid, row by row.
 /// `SliceTooLong` comes exactly where a slice's content has more than 2 to the power 24 bytes less 1. Golomb-Rice slices aren't
-/// written yet, so the record's coder is `Range`. RFC 9043 sections 4.4 to 4.9.
+/// written yet, so the record's coder is `Range`. The packet decodes to the picture. RFC 9043 sections 4.4 to 4.9.
 pub fn encode_frame(
     alloc: Global,
     record: &Record,
@@ -33,8 +34,13 @@ pub fn encode_frame(
 ) -> Result<Vec<u8>, EncodeFault>
     requires range_coded { record.now.coder_type ≢ 0 }
     requires suits { Suits record.now picture.now.shape }
-    ensures { Encodes record.now picture.now result }
+    ensures written { Encodes record.now picture.now result }
+    ensures read_back { IfOk result (λ bytes. Gives record.now picture.now.shape bytes.items (Ok picture.now)) }
+    ensures few { IfOk result (λ bytes. vec_len bytes ≤ max_packet_bytes) }
 {
+    record.lawful();
+    let _shape = picture.shape();
+    written_is_read_back();
     match packet_of(alloc, record, picture) {
         Ok(Some(packet)) => Ok(packet),
         Ok(None) => Err(EncodeFault::SliceTooLong),

@@ -13,7 +13,7 @@ mod written;
 pub use decode::decode_frame;
 pub use encode::encode_frame;
 pub use fault::DecodeFault;
-pub use written::writes_one_packet;
+pub use written::{writes_one_packet, written_is_read_back};
 
 #[cfg(test)]
 mod tests;

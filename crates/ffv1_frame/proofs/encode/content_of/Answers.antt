@@ -1,4 +1,4 @@
-use Rattle.std.proofs.Common.{sym, subst}
+use Rattle.std.proofs.Common.{subst}
 use Rattle.pic_planes.specs.Shape.{Layout}
 use Rattle.ffv1_slice.specs.Slice.{CanHold}
 use Rattle.std.proofs.Common.{◌≤◌, arith, ap}

@@ -1,5 +1,5 @@
 -- One slice more stands in the packet.
-use Rattle.std.proofs.Common.{◌≡◌, ◌≤◌, ℕ, ◌++◌, List, length, sym, ◌∙◌, ap, arith}
+use Rattle.std.proofs.Common.{◌≤◌, ℕ, ◌++◌, List, length, ◌∙◌, ap, arith}
 use Rattle.tl_limits.specs.Limits.{max_slice_bytes}
 use Rattle.ffv1_frame.specs.Packet.{bytes_of}
 use Rattle.ffv1_frame.specs.Written.{slice_of}
