@@ -3,3 +3,4 @@ pub mod Reading
 pub mod Ahead
 pub mod Slice
 pub mod Writing
+pub mod Gathered

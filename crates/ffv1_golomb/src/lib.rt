@@ -6,6 +6,10 @@ mod read_plane;
 mod read_row;
 mod read_slice;
 mod scratch;
+mod write_part;
+mod write_plane;
+mod write_row;
 
 pub use read_slice::decode_rice_slice;
 pub use scratch::RiceScratch;
+pub use write_part::encode_rice_slice;
