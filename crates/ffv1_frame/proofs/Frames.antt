@@ -7,7 +7,8 @@ use Rattle.pic_planes.specs.Shape.{Layout}
 use Rattle.ffv1_range.specs.Reading.{Reading, opened, bit_of}
 use Rattle.ffv1_range.specs.Symbol.{source}
 use Rattle.ffv1_range.specs.Transition.{AllKept, IsKept}
-use Rattle.ffv1_record.specs.Parameters.{Parameters}
+use Rattle.ffv1_range.specs.declared.transition.TheConstants.{DEFAULT_TRANSITION}
+use Rattle.ffv1_record.specs.Parameters.{IsRecord, Parameters}
 use Rattle.ffv1_slice.specs.declared.header.Grid.{Grid}
 use Rattle.ffv1_slice.specs.declared.header.Header.{Header}
 use Rattle.ffv1_slice.specs.declared.fault.HeaderFault.{HeaderFault}
@@ -72,3 +73,10 @@ key_frame p packet slices ec key table content at_ec some chain parities at_tabl
   sliced = record { some = some; chain = chain; parities = subst (λ (b : Bool). HaveParities b slices) at_ec parities };
   key = sym (ap (λ (t : List ℕ). bit_of (opened t content) 128) at_table ∙ ap (λ (b : List ℕ). bit_of (opened p.transition b) 128) at_content) ∙ sym is ∙ is_true;
 }
+
+-- ---- the sentinel
+-- In Golomb-Rice mode the table is the default one, which keeps the sentinel's state.
+pub keeps-sentinel : (p : Parameters) → IsRecord p → p.coder_type ≡ 0 → IsKept p.transition 129
+keeps-sentinel p is rice =
+    let default : IsKept DEFAULT_TRANSITION 129 = (omega arith, omega arith) in
+    subst (λ (t : List ℕ). IsKept t 129) (sym (is.table.default (omega (arith, rice)))) default

@@ -1,5 +1,5 @@
 -- The packet that a picture is written as decodes to the picture.
-use Rattle.std.proofs.Common.{◌≡◌, ℕ, zero, suc, ◌*◌, ◌<◌, ◌≤◌, Bool, List, [], length, replicate, get_or, reverse, ◌⊎◌, Ok, refl, sym, ◌∙◌, ap, subst, arith, inl, inr}
+use Rattle.std.proofs.Common.{◌≡◌, ◌≢◌, ℕ, zero, suc, ◌*◌, ◌<◌, ◌≤◌, Bool, List, [], length, replicate, get_or, reverse, ◌⊎◌, Ok, refl, sym, ◌∙◌, ap, subst, arith, inl, inr}
 use Rattle.std.specs.Prelude.{slice_index_or}
 use Rattle.std.proofs.Math.Nat.{mul-le-mul_right}
 use Rattle.std.proofs.lemmas.Bool.{cases_lt}
@@ -16,9 +16,9 @@ use Rattle.ffv1_slice.specs.declared.header.Header.{Header}
 use Rattle.ffv1_slice.specs.Slice as slices
 use Rattle.ffv1_frame.specs.Packet.{Slice, no_slice, EndsWith}
 use Rattle.ffv1_frame.specs.Cover.{AreCovered}
-use Rattle.ffv1_frame.specs.Frame.{DecodesTo, HeaderGives, AreHeaders, IsKeyFrame, IsWhole}
+use Rattle.ffv1_frame.specs.Frame.{SamplesGive, DecodesTo, HeaderGives, AreHeaders, IsKeyFrame, IsWhole}
 use Rattle.ffv1_frame.specs.Written.{cell_header, cell_slice, slice_of, packet_of, AreContents, IsPacket, IsReadBack}
-use Rattle.ffv1_frame.proofs.SliceSteps.{filled-shape}
+use Rattle.ffv1_frame.proofs.SliceSteps.{filled-shape, range-samples}
 use Rattle.ffv1_frame.proofs.SlicesBack.{after_slice}
 use Rattle.ffv1_frame.proofs.ContentsBack.{CellRead, cell_read}
 use Rattle.ffv1_frame.proofs.Pasting.{HasSizes, Copies, InSlice, nothing_copied, both_copied, copied_at, slice_copied}
@@ -119,6 +119,7 @@ all_right p image sound picture suits =
 -- ---- decoding
 -- What is known of a packet that was written.
 record Known (p : Parameters) (image : Image) (contents : List (List ℕ)) : Type 0 where
+  coder : p.coder_type ≢ 0
   sound : IsRecord p
   picture : IsPicture image
   suits : Suits p image.shape
@@ -144,14 +145,15 @@ decodes p image contents (suc n) known within =
     let before : Image = picture_after p image n in
     let read = read_at p image contents n known lt in
     let slice : slices.Slice = cell_slice p image.shape n in
-    let size : length (get_or contents n []) ≡ length (slice_index_or (slices_of p.ec contents) n no_slice).content = ap (λ (s : Slice). length s.content) (sym (slice-is p.ec contents n lt)) in (
+    let content : get_or contents n [] ≡ (slice_index_or (slices_of p.ec contents) n no_slice).content = ap (λ (s : Slice). s.content) (sym (slice-is p.ec contents n lt)) in
+    let given : SamplesGive p.coder_type slice (get_or contents n []) (slices.standing read.reading before) (after_slice slice image before) (Ok tt) = range-samples p.coder_type slice (get_or contents n []) (slices.standing read.reading before) (after_slice slice image before) (Ok tt) known.coder (read.samples before) in (
       before,
       decodes p image contents n known (omega arith),
       (
         cell_header p.columns n,
         read.reading,
         header_gives p image contents n known lt,
-        subst (λ (k : ℕ). slices.Gives slice k (slices.standing read.reading before) (after_slice slice image before) (Ok tt)) size (read.samples before),
+        subst (λ (l : List ℕ). SamplesGive p.coder_type slice l (slices.standing read.reading before) (after_slice slice image before) (Ok tt)) content given,
       ),
     )
 
@@ -190,10 +192,10 @@ whole numbers p image packet contents known is =
     }
 
 pub read_back : (numbers : AreNumbers) → IsReadBack
-read_back numbers p image packet sound picture suits written =
+read_back numbers p image packet coder sound picture suits written =
     let contents : List (List ℕ) = written.contents in
     let slices : List Slice = slices_of p.ec contents in
-    let known : Known p image contents = record { sound = sound; picture = picture; suits = suits; are = written.are; all = written.all } in
+    let known : Known p image contents = record { coder = coder; sound = sound; picture = picture; suits = suits; are = written.are; all = written.all } in
     let last : DecodesTo p image.shape slices (length contents) (picture_after p image (length contents)) = decodes p image contents (length contents) known (omega arith) in
     let all : DecodesTo p image.shape slices (length slices) (picture_after p image (length contents)) = subst (λ (n : ℕ). DecodesTo p image.shape slices n (picture_after p image (length contents))) (sym (length-map contents (slice_of p.ec))) last in
     let is : picture_after p image (length contents) ≡ image = ap (picture_after p image) written.all ∙ all_right p image sound picture suits in

@@ -1,5 +1,5 @@
 -- Steps of decoding the samples of slices.
-use Rattle.std.proofs.Common.{◌≡◌, ℕ, zero, suc, ◌+◌, ◌-◌, ◌%◌, ◌<◌, ◌≤◌, List, [], ◌∷◌, length, map, take, get_or, sym, ◌∙◌, ap, subst, arith, add-one, Result, Ok, Err, inl, inr}
+use Rattle.std.proofs.Common.{◌≡◌, ℕ, zero, suc, ◌+◌, ◌-◌, ◌%◌, ◌<◌, ◌≤◌, List, [], ◌∷◌, length, map, take, get_or, refl, sym, ◌∙◌, ap, subst, arith, add-one, Result, Ok, Err, inl, inr}
 use Rattle.std.specs.Prelude.{⊤, ℤ, slice_index, slice_index_or}
 use Rattle.std.proofs.lemmas.List.{length-map, length-take-le, get_or-map, get_or-take}
 use Rattle.std.proofs.lemmas.Bool.{cases_lt}
@@ -18,9 +18,10 @@ use Rattle.ffv1_slice.specs.Area.{chroma_areas}
 use Rattle.ffv1_slice.specs.Cells.{IsInGrid, areas_of}
 use Rattle.ffv1_slice.specs.Reading.{ContextsFit}
 use Rattle.ffv1_slice.specs.Slice as slices
+use Rattle.ffv1_golomb.specs.Slice as rice
 use Rattle.ffv1_frame.specs.declared.fault.DecodeFault.TheVariants.{Frame}
 use Rattle.ffv1_frame.specs.Packet.{Slice, no_slice}
-use Rattle.ffv1_frame.specs.Frame.{Gives, IsWhole, AreHeaders, HeaderGives, SliceGives, DecodesTo, grid_of, no_header, slice_by, slice_fault_of}
+use Rattle.ffv1_frame.specs.Frame.{Gives, IsWhole, AreHeaders, HeaderGives, SamplesGive, SliceGives, DecodesTo, grid_of, no_header, slice_by, slice_fault_of}
 
 -- ---- the contexts of table sets
 -- how many contexts a set gives, by its place
@@ -81,11 +82,22 @@ slice-is p h luma chroma areas wanted tables count others many is =
     ∙ ap (λ (n : ℕ). slice_built (tables_of p h.luma_set) (context_count_of p h.luma_set) (tables_of p h.chroma_set) n areas) many
     ∙ ap (λ (a : Areas). slice_built (tables_of p h.luma_set) (context_count_of p h.luma_set) (tables_of p h.chroma_set) (context_count_of p h.chroma_set) a) is
 
-pub slice-gives : (p : Parameters) (shape : Layout) (i : ℕ) (slice : Slice) (h : Header) (reading : Reading) (bytes : ℕ) (before image : Image) (result : Result (⊤) SliceFault)
-    → HeaderGives p i slice reading (Ok h) → bytes ≡ length slice.content → slices.Gives (slice_by p h (areas_of (grid_of p) shape h)) bytes (slices.standing reading before) image result
+pub range-samples : (coder : ℕ) (s : slices.Slice) (content : List ℕ) (at : slices.Standing) (image : Image) (result : Result (⊤) SliceFault)
+    → (coder ≡ 0 → ⊥) → slices.Gives s (length content) at image result → SamplesGive coder s content at image result
+range-samples zero s content at image result some gives = absurd (some refl)
+range-samples (suc coder) s content at image result some gives = gives
+
+pub rice-samples : (coder : ℕ) (s : slices.Slice) (content : List ℕ) (at : slices.Standing) (image : Image) (result : Result (⊤) SliceFault)
+    → coder ≡ 0 → rice.Gives s (rice.sample_bytes content at.reading) at.image image result → SamplesGive coder s content at image result
+rice-samples zero s content at image result none gives = gives
+rice-samples (suc coder) s content at image result none gives = absurd (omega arith)
+
+pub slice-gives : (p : Parameters) (shape : Layout) (i : ℕ) (slice : Slice) (h : Header) (reading : Reading) (content : List ℕ) (before image : Image) (result : Result (⊤) SliceFault)
+    → HeaderGives p i slice reading (Ok h) → content ≡ slice.content
+    → SamplesGive p.coder_type (slice_by p h (areas_of (grid_of p) shape h)) content (slices.standing reading before) image result
     → SliceGives p shape i slice before image result
-slice-gives p shape i slice h reading bytes before image result header is gives =
-    (h, reading, header, subst (λ (n : ℕ). slices.Gives (slice_by p h (areas_of (grid_of p) shape h)) n (slices.standing reading before) image result) is gives)
+slice-gives p shape i slice h reading content before image result header is gives =
+    (h, reading, header, subst (λ (l : List ℕ). SamplesGive p.coder_type (slice_by p h (areas_of (grid_of p) shape h)) l (slices.standing reading before) image result) is gives)
 
 -- ---- slices in turn
 pub filled-shape : (shape : Layout) (image : Image) → image ≡ filled shape 0 0 → image.shape ≡ shape

@@ -16,6 +16,7 @@ use Rattle.ffv1_slice.specs.Header as headers
 use Rattle.ffv1_slice.specs.Cells.{areas_of}
 use Rattle.ffv1_slice.specs.Area.{chroma_areas}
 use Rattle.ffv1_slice.specs.Slice as slices
+use Rattle.ffv1_golomb.specs.Slice as rice
 use Rattle.tl_model.specs.declared.fault.FrameFault.{FrameFault}
 use Rattle.tl_model.specs.declared.fault.FrameFault.TheVariants.{Empty, Chain, Parity, NotKey, Header as BadHeader, TableIndex, Cover, Symbol, Overrun}
 use Rattle.ffv1_frame.specs.declared.fault.DecodeFault.{DecodeFault}
@@ -100,11 +101,17 @@ slice_by p h areas = record {
   chroma = slices.part (tables_of p h.chroma_set) (context_count_of p h.chroma_set) (chroma_areas areas.chroma);
 }
 
+-- What the samples of a content give behind a header, by the coder type: 0 is Golomb-Rice mode, and the others are the range coder.
+-- RFC 9043 section 4.2.3.
+abbrev pub SamplesGive : ℕ → slices.Slice → List ℕ → slices.Standing → Image → Result (⊤) SliceFault → Type 0
+SamplesGive zero s content at image result = rice.Gives s (rice.sample_bytes content at.reading) at.image image result
+SamplesGive (suc coder) s content at image result = slices.Gives s (length content) at image result
+
 -- What the samples of a slice give, in the picture of the slices before it.
 abbrev pub SliceGives : Parameters → Layout → ℕ → Slice → Image → Image → Result (⊤) SliceFault → Type 0
 SliceGives p shape i slice before image result =
     (h : Header) × (reading : Reading) × HeaderGives p i slice reading (Ok h)
-    × slices.Gives (slice_by p h (areas_of (grid_of p) shape h)) (length slice.content) (slices.standing reading before) image result
+    × SamplesGive p.coder_type (slice_by p h (areas_of (grid_of p) shape h)) slice.content (slices.standing reading before) image result
 
 -- The first slices decode to this picture, in turn: a later slice's samples stand, and a sample that no slice has is 0.
 abbrev pub DecodesTo : Parameters → Layout → List Slice → ℕ → Image → Type 0

@@ -1,5 +1,5 @@
 -- What a picture is written as: a packet with one slice for each cell of the grid, row by row. RFC 9043 sections 4.4 to 4.9.
-use Rattle.std.specs.Prelude.{◌≡◌, ⊤, ℕ, ◌*◌, ◌/◌, ◌%◌, ◌<◌, ◌≤◌, Bool, true, false, ◌==◌, List, [], ◌∷◌, ◌++◌, length, slice_index_or, All, Option, Some, None, Result, Ok, Err}
+use Rattle.std.specs.Prelude.{◌≡◌, ◌≢◌, ⊤, ℕ, ◌*◌, ◌/◌, ◌%◌, ◌<◌, ◌≤◌, Bool, true, false, ◌==◌, List, [], ◌∷◌, ◌++◌, length, slice_index_or, All, Option, Some, None, Result, Ok, Err}
 use Rattle.std.specs.List.{flat_map}
 use Rattle.std.specs.Global.{Vec}
 use Rattle.byteorder.specs.Endian.{big_bytes}
@@ -98,5 +98,5 @@ Encodes p image (Err NoMemory) = ⊤
 -- The packet that a picture is written as decodes to the picture.
 abbrev pub IsReadBack : Type 0
 IsReadBack =
-    (p : Parameters) (image : Image) (packet : List ℕ) → IsRecord p → IsPicture image → Suits p image.shape → Writes p image (Some packet)
+    (p : Parameters) (image : Image) (packet : List ℕ) → p.coder_type ≢ 0 → IsRecord p → IsPicture image → Suits p image.shape → Writes p image (Some packet)
     → Gives p image.shape packet (Ok image)

@@ -69,6 +69,7 @@ pub(crate) fn content<'a>(packet: &'a [u8], spans: &[Span], i: usize) -> &'a [u8
 fn reader_at_header<'a>(content: &'a [u8], table: &'a Transition, first: bool) -> RangeReader<'a>
     ensures reading { result ≡ reader_at table.now first content.now }
     ensures fresh { AllKept result.table (replicate 32 128) }
+    ensures table { result.table ≡ table.now }
 {
     let mut reader = RangeReader::over(content, table);
     if first {
@@ -109,6 +110,7 @@ pub(crate) fn open_slice<'a>(
     requires { All (IsSpan packet.now) spans.now }
     ensures gives { HeaderGives record.now i (slice_index_or (map (slice_at packet.now) spans.now) i no_slice) result.1 result.0 }
     ensures fresh { AllKept result.1.table (replicate 32 128) }
+    ensures table { result.1.table ≡ record.now.transition }
 {
     let content = content(packet, spans, i);
     let grid = grid_of(record);

@@ -4,6 +4,8 @@
 mod chain;
 mod cover;
 mod decode;
+mod decode_range;
+mod decode_rice;
 mod encode;
 mod fault;
 mod frame;

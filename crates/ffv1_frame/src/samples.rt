@@ -1,14 +1,15 @@
 //! The samples of one slice, by its header. RFC 9043 sections 4.7 and 4.8.
-ghost use Rattle.std.specs.Prelude.{◌≡◌, ℕ, ◌<◌, ◌≤◌, ◌^◌, length, replicate, map, slice_index};
-ghost use Rattle.ffv1_range.specs.Transition.{AllKept};
+ghost use Rattle.std.specs.Prelude.{◌≡◌, ◌≢◌, ℕ, ◌<◌, ◌≤◌, ◌^◌, length, replicate, map, slice_index};
+ghost use Rattle.ffv1_range.specs.Transition.{AllKept, IsKept};
 ghost use Rattle.ffv1_record.specs.Parameters.{tables_of, context_count_of};
 ghost use Rattle.ffv1_record.specs.Tables.{set_of};
 ghost use Rattle.ffv1_slice.specs.Cells.{IsInGrid, areas_of};
 ghost use Rattle.ffv1_slice.specs.Reading.{ContextsFit};
 ghost use Rattle.ffv1_slice.specs.Slice as slices;
-ghost use Rattle.ffv1_frame.specs.Frame.{grid_of, slice_by};
+ghost use Rattle.ffv1_frame.specs.Frame.{grid_of, slice_by, SamplesGive};
 
 use crate::frame::grid_of;
+use ffv1_golomb::{RiceScratch, decode_rice_slice};
 use ffv1_range::RangeReader;
 use ffv1_record::{Record, TableSet, Tables};
 use ffv1_slice::{Header, Quantization, Scratch, SliceFault, decode_slice};
@@ -71,16 +72,17 @@ pub(crate) fn quantization<'a>(record: &Record, set: u32, tables: &'a Tables) ->
     }
 }
 
-/// Reads the samples of a slice into a picture, behind its header, from a content of so many bytes.
-pub(crate) fn decode_samples(
+/// Reads the samples of a slice into a picture by the range coder, behind its header.
+pub(crate) fn decode_range_samples(
     record: &Record,
     header: Header,
     reader: RangeReader,
-    content: u64,
+    content: &[u8],
     shape: Shape,
     scratch: &mut Scratch,
     picture: &mut Picture,
 ) -> Result<(), SliceFault>
+    requires range_coded { record.now.coder_type ≢ 0 }
     requires grid { IsInGrid (grid_of record.now) shape header }
     requires luma { header.luma_set < length record.now.sets }
     requires chroma { header.chroma_set < length record.now.sets }
@@ -88,8 +90,8 @@ pub(crate) fn decode_samples(
     requires width { shape.width ≤ scratch.old.width }
     requires contexts { (set : ℕ) → set < length record.now.sets → context_count_of record.now set ≤ scratch.old.contexts }
     requires fresh { AllKept reader.table (replicate 32 128) }
-    requires content { content < 2 ^ 60 }
-    ensures gives { slices.Gives (slice_by record.now header (areas_of (grid_of record.now) shape header)) content
+    requires content { length content.now < 2 ^ 60 }
+    ensures gives { SamplesGive record.now.coder_type (slice_by record.now header (areas_of (grid_of record.now) shape header)) content.now
         (slices.standing reader.entry picture.old) picture.new result }
     ensures shape { picture.new.shape ≡ picture.old.shape }
     ensures room { scratch.new ≡ scratch.old }
@@ -99,5 +101,38 @@ pub(crate) fn decode_samples(
     let luma = quantization(record, header.luma_set, &luma_tables);
     let chroma = quantization(record, header.chroma_set, &chroma_tables);
     let areas = header.areas(grid_of(record), shape);
-    decode_slice(reader, content, luma, chroma, areas, scratch, picture)
+    let bytes = content.len() as u64;
+    decode_slice(reader, bytes, luma, chroma, areas, scratch, picture)
+}
+
+/// Reads the samples of a slice into a picture in Golomb-Rice mode, behind its header.
+pub(crate) fn decode_rice_samples(
+    record: &Record,
+    header: Header,
+    reader: RangeReader,
+    content: &[u8],
+    shape: Shape,
+    scratch: &mut RiceScratch,
+    picture: &mut Picture,
+) -> Result<(), SliceFault>
+    requires rice_coded { record.now.coder_type ≡ 0 }
+    requires grid { IsInGrid (grid_of record.now) shape header }
+    requires luma { header.luma_set < length record.now.sets }
+    requires chroma { header.chroma_set < length record.now.sets }
+    requires shape { picture.old.shape ≡ shape }
+    requires width { shape.width ≤ scratch.old.width }
+    requires contexts { (set : ℕ) → set < length record.now.sets → context_count_of record.now set ≤ scratch.old.contexts }
+    requires kept { IsKept reader.table 129 }
+    requires content { length content.now < 2 ^ 60 }
+    ensures gives { SamplesGive record.now.coder_type (slice_by record.now header (areas_of (grid_of record.now) shape header)) content.now
+        (slices.standing reader.entry picture.old) picture.new result }
+    ensures shape { picture.new.shape ≡ picture.old.shape }
+    ensures room { scratch.new ≡ scratch.old }
+{
+    let luma_tables = tables_of(record, header.luma_set);
+    let chroma_tables = tables_of(record, header.chroma_set);
+    let luma = quantization(record, header.luma_set, &luma_tables);
+    let chroma = quantization(record, header.chroma_set, &chroma_tables);
+    let areas = header.areas(grid_of(record), shape);
+    decode_rice_slice(reader, content, luma, chroma, areas, scratch, picture)
 }

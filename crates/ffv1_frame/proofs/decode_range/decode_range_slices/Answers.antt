@@ -5,7 +5,7 @@ use Rattle.ffv1_slice.specs.Room.{Room}
 use Rattle.ffv1_frame.specs.Packet.{Slice, slice_at}
 use Rattle.ffv1_frame.specs.Frame.{DecodesTo}
 use Rattle.ffv1_frame.proofs.SliceSteps.{filled-shape, decodes-next}
-use Rattle.ffv1_frame.proofs.decode.decode_slices.Goals as goal
+use Rattle.ffv1_frame.proofs.decode_range.decode_range_slices.Goals as goal
 
 pub loop-i-init : goal.loop-i-init
 loop-i-init c = record {
@@ -19,10 +19,10 @@ pub loop-i-preserved : goal.loop-i-preserved
 loop-i-preserved c =
     let slices : List Slice = map (slice_at c.args.packet.now) c.args.spans.now in
     record {
-      decodes = decodes-next c.args.record.now c.args.shape slices c.loop-i.i c.loop-i.picture c.decode_at.new.picture c.loop-i.invariant.decodes c.in_ok-decode_at.ensures.ok;
-      shape = c.in_ok-decode_at.ensures.shape ∙ c.loop-i.invariant.shape;
-      width = subst (λ (r : Room). c.args.shape.width ≤ r.width) (sym c.in_ok-decode_at.ensures.room) c.loop-i.invariant.width;
-      contexts = λ set lt. subst (λ (r : Room). context_count_of c.args.record.now set ≤ r.contexts) (sym c.in_ok-decode_at.ensures.room) (c.loop-i.invariant.contexts set lt);
+      decodes = decodes-next c.args.record.now c.args.shape slices c.loop-i.i c.loop-i.picture c.decode_range_at.new.picture c.loop-i.invariant.decodes c.in_ok-decode_range_at.ensures.ok;
+      shape = c.in_ok-decode_range_at.ensures.shape ∙ c.loop-i.invariant.shape;
+      width = subst (λ (r : Room). c.args.shape.width ≤ r.width) (sym c.in_ok-decode_range_at.ensures.room) c.loop-i.invariant.width;
+      contexts = λ set lt. subst (λ (r : Room). context_count_of c.args.record.now set ≤ r.contexts) (sym c.in_ok-decode_range_at.ensures.room) (c.loop-i.invariant.contexts set lt);
     }
 
 pub returns : goal.returns

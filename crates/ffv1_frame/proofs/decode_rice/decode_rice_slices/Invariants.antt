@@ -2,7 +2,7 @@ use Rattle.std.proofs.Common.{◌≡◌, ℕ, ◌<◌, ◌≤◌, length, map}
 use Rattle.ffv1_record.specs.Parameters.{context_count_of}
 use Rattle.ffv1_frame.specs.Packet.{slice_at}
 use Rattle.ffv1_frame.specs.Frame.{DecodesTo}
-use Rattle.ffv1_frame.proofs.decode.decode_slices.Given as goal
+use Rattle.ffv1_frame.proofs.decode_rice.decode_rice_slices.Given as goal
 
 abbrev pub invariant-loop-i : goal.invariant-loop-i
 invariant-loop-i l = record {

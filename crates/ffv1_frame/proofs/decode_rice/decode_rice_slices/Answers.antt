@@ -1,0 +1,32 @@
+use Rattle.std.proofs.Common.{◌≡◌, ◌≤◌, ℕ, List, length, map, sym, subst, ap, ◌∙◌, arith}
+use Rattle.std.proofs.lemmas.List.{length-map}
+use Rattle.ffv1_record.specs.Parameters.{context_count_of}
+use Rattle.ffv1_slice.specs.Room.{Room}
+use Rattle.ffv1_frame.specs.Packet.{Slice, slice_at}
+use Rattle.ffv1_frame.specs.Frame.{DecodesTo}
+use Rattle.ffv1_frame.proofs.SliceSteps.{filled-shape, decodes-next}
+use Rattle.ffv1_frame.proofs.decode_rice.decode_rice_slices.Goals as goal
+
+pub loop-i-init : goal.loop-i-init
+loop-i-init c = record {
+  decodes = c.in_ok-picture.ensures;
+  shape = filled-shape c.args.shape c.in_ok-picture.picture c.in_ok-picture.ensures;
+  width = omega (arith, ap (λ (r : Room). r.width) c.in_ok-scratch.ensures, c.width-width.ensures.width);
+  contexts = λ set lt. omega (arith, ap (λ (r : Room). r.contexts) c.in_ok-scratch.ensures, c.most_contexts.ensures set lt);
+}
+
+pub loop-i-preserved : goal.loop-i-preserved
+loop-i-preserved c =
+    let slices : List Slice = map (slice_at c.args.packet.now) c.args.spans.now in
+    record {
+      decodes = decodes-next c.args.record.now c.args.shape slices c.loop-i.i c.loop-i.picture c.decode_rice_at.new.picture c.loop-i.invariant.decodes c.in_ok-decode_rice_at.ensures.ok;
+      shape = c.in_ok-decode_rice_at.ensures.shape ∙ c.loop-i.invariant.shape;
+      width = subst (λ (r : Room). c.args.shape.width ≤ r.width) (sym c.in_ok-decode_rice_at.ensures.room) c.loop-i.invariant.width;
+      contexts = λ set lt. subst (λ (r : Room). context_count_of c.args.record.now set ≤ r.contexts) (sym c.in_ok-decode_rice_at.ensures.room) (c.loop-i.invariant.contexts set lt);
+    }
+
+pub returns : goal.returns
+returns c =
+    let slices : List Slice = map (slice_at c.args.packet.now) c.args.spans.now in
+    let at : c.loop-i.i ≡ length slices = omega (arith, length-map c.args.spans.now (slice_at c.args.packet.now), c.loop-i-test.false, c.loop-i.auto.i-end) in
+    (slices, c.requires.whole, subst (λ (n : ℕ). DecodesTo c.args.record.now c.args.shape slices n c.loop-i.picture) at c.loop-i.invariant.decodes)

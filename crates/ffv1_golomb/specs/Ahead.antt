@@ -1,0 +1,21 @@
+-- What a reader's loop keeps of a run that has samples ahead.
+use Rattle.std.specs.Prelude.{ℕ, ◌+◌, List}
+use Rattle.ffv1_rice.specs.declared.runs.Mode.{Mode}
+use Rattle.ffv1_rice.specs.declared.runs.Mode.TheVariants.{Outside, Running, Ending}
+use Rattle.ffv1_rice.specs.Bits.{Reading}
+use Rattle.ffv1_rice.specs.State.{State}
+use Rattle.ffv1_rice.specs.Runs.{Run, Coding, source, coding}
+
+-- a run with so many more samples of difference 0
+abbrev pub ahead : ℕ → Run → Run
+ahead zeros run = record run { count = run.count + zeros }
+
+-- the states and the bits, with such a run
+abbrev pub coding_ahead : ℕ → Run → List State → Reading → Coding
+coding_ahead zeros run states reading = coding (source (ahead zeros run) reading) states
+
+-- A run goes on.
+abbrev pub IsInRun : Mode → Type 0
+IsInRun Outside = ⊥
+IsInRun Running = Unit {0}
+IsInRun Ending = Unit {0}

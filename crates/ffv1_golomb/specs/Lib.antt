@@ -1,0 +1,6 @@
+pub mod Turn
+pub mod Reading
+pub mod Ahead
+pub mod Slice
+pub mod Writing
+pub mod Gathered
