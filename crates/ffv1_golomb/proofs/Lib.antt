@@ -5,3 +5,6 @@ pub mod PlaneSteps
 pub mod SliceSteps
 pub mod WriteSteps
 pub mod WritePlane
+pub mod Packing
+pub mod Back
+pub mod BackSlice

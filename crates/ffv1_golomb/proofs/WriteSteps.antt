@@ -30,7 +30,7 @@ one_gathered tables r x contexts differences m d in_contexts in_differences befo
 
 -- ---- a line is the samples of a row
 -- what was written after some samples of a row
-abbrev row_put : List (List ℤ) → Rows → ℕ → Written → Written
+abbrev pub row_put : List (List ℤ) → Rows → ℕ → Written → Written
 row_put tables r zero w = w
 row_put tables r (suc x) w =
     sample_put (nat_abs (context tables (near r x))) (coded (context tables (near r x)) (near r x) (slice_index r.row x)) (row_put tables r x w)

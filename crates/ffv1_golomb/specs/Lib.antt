@@ -4,3 +4,4 @@ pub mod Ahead
 pub mod Slice
 pub mod Writing
 pub mod Gathered
+pub mod Law
