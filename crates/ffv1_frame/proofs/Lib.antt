@@ -4,3 +4,14 @@ pub mod SliceSteps
 pub mod Stages
 pub mod OneDecoding
 pub mod DecodingExists
+pub mod Packets
+pub mod Writings
+pub mod Passages
+pub mod SamplesBack
+pub mod SlicesBack
+pub mod ContentsBack
+pub mod Pasting
+pub mod Covering
+pub mod PacketsBack
+pub mod Cells
+pub mod PictureBack

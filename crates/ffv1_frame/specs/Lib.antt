@@ -2,3 +2,4 @@ pub mod Packet
 pub mod Cover
 pub mod Frame
 pub mod Law
+pub mod Written

@@ -6,14 +6,18 @@ mod cover;
 mod decode;
 mod decode_range;
 mod decode_rice;
+mod encode;
 mod fault;
 mod frame;
 mod law;
 mod samples;
+mod written;
 
 pub use decode::decode_frame;
+pub use encode::encode_frame;
 pub use fault::DecodeFault;
 pub use law::one_decoding;
+pub use written::{writes_one_packet, written_is_read_back};
 
 #[cfg(test)]
 mod tests;

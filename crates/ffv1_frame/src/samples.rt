@@ -15,8 +15,8 @@ use ffv1_record::{Record, TableSet, Tables};
 use ffv1_slice::{Header, Quantization, Scratch, SliceFault, decode_slice};
 use pic_planes::{Picture, Shape};
 
-// The entries of the tables of a set.
-fn tables_of(record: &Record, set: u32) -> Tables
+/// The entries of the tables of a set.
+pub(crate) fn tables_of(record: &Record, set: u32) -> Tables
     requires { set < length record.now.sets }
     ensures { result ≡ tables_of record.now set }
 {
@@ -57,8 +57,8 @@ fn larger(a: u32, b: u32) -> u32
     if a < b { b } else { a }
 }
 
-// The tables of a set, to decode by.
-fn quantization<'a>(record: &Record, set: u32, tables: &'a Tables) -> Quantization<'a>
+/// The tables of a set, to code by.
+pub(crate) fn quantization<'a>(record: &Record, set: u32, tables: &'a Tables) -> Quantization<'a>
     requires set { set < length record.now.sets }
     requires tables { tables.now ≡ tables_of record.now set }
     ensures tables { result.tables.now ≡ tables_of record.now set }

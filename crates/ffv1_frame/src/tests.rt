@@ -1,11 +1,11 @@
 //! Worked packets.
 
-use super::{DecodeFault, decode_frame};
+use super::{DecodeFault, decode_frame, encode_frame};
 use ffv1_record::{Coder, Record, default_record};
 use pic_planes::{Chroma, Picture, Shape};
 use std::alloc::{AllocError, Global};
 use std::test::Fail;
-use tl_model::FrameFault;
+use tl_model::{EncodeFault, FrameFault};
 
 // A picture's samples, plane after plane.
 fn samples_of(alloc: Global, picture: &Picture) -> Result<Vec<u8>, AllocError> {
@@ -26,7 +26,7 @@ fn decoded(
     shape: Shape,
     packet: &[u8],
 ) -> Result<Option<Vec<u8>>, DecodeFault> {
-    if packet.len() > 10 {
+    if packet.len() > 100 {
         return Ok(None);
     }
     if !record.suits(shape) {
@@ -86,5 +86,56 @@ fn worked_packets(rt: HostRuntime) -> Result<(), Fail> {
     ] {
         assert_eq!(rt; fault(a, record, shape, packet), Some(expected));
     }
+    Ok(())
+}
+
+// The packet of a picture. None where the picture may not be encoded by the record.
+fn encoded(
+    alloc: Global,
+    record: &Record,
+    picture: &Picture,
+) -> Result<Option<Vec<u8>>, EncodeFault> {
+    if !record.suits(picture.shape()) {
+        return Ok(None);
+    }
+    match record.coder() {
+        Coder::Rice => Ok(None),
+        Coder::Range => {
+            let packet = encode_frame(alloc, record, picture)?;
+            Ok(Some(packet))
+        }
+    }
+}
+
+// Whether a picture is encoded as these bytes.
+fn has_bytes(alloc: Global, record: &Record, picture: &Picture, bytes: &[u8]) -> bool {
+    match encoded(alloc, record, picture) {
+        Ok(Some(found)) => found.as_slice() == bytes,
+        _ => false,
+    }
+}
+
+// Whether the packet of a picture decodes to these samples.
+fn is_read_back(alloc: Global, record: &Record, picture: &Picture, samples: &[u8]) -> bool {
+    match encoded(alloc, record, picture) {
+        Ok(Some(packet)) => has_samples(alloc, record, picture.shape(), packet.as_slice(), samples),
+        _ => false,
+    }
+}
+
+#[test]
+#[rattlefmt::skip]
+fn worked_pictures(rt: HostRuntime) -> Result<(), Fail> {
+    let a = rt.alloc();
+    let square = Shape::of(2, 2, Chroma::Grey).ok_or("a shape")?;
+    let chroma = Shape::of(4, 2, Chroma::Shifts { h: 1, v: 1 }).ok_or("a shape")?;
+    let plain = default_record(a, square, Coder::Range, 1, 1)?.with_ec(false);
+    let cells = default_record(a, chroma, Coder::Range, 2, 1)?;
+    let zeros = Picture::zero(a, square)?;
+    let black = Picture::blank(a, chroma)?;
+    let samples = [16, 16, 16, 16, 16, 16, 16, 16, 128, 128, 128, 128];
+    assert!(rt; has_bytes(a, &plain, &zeros, &[0xFE, 0xEB, 0, 0, 2]));
+    assert!(rt; is_read_back(a, &plain, &zeros, &[0, 0, 0, 0]));
+    assert!(rt; is_read_back(a, &cells, &black, &samples));
     Ok(())
 }

@@ -5,3 +5,8 @@ pub mod PlaneSteps
 pub mod SliceSteps
 pub mod OneSlice
 pub mod ExistsSlice
+pub mod WriteSteps
+pub mod WritePlane
+pub mod Packing
+pub mod Back
+pub mod BackSlice

@@ -4,6 +4,8 @@ use Rattle.ffv1_rice.specs.State.{fresh}
 use Rattle.ffv1_slice.specs.declared.area.Area.{Area}
 use Rattle.ffv1_slice.specs.Slice.{Part, part}
 use Rattle.ffv1_slice.proofs.Parts.{with_chroma}
+use Rattle.pic_planes.specs.Picture.{Image}
+use Rattle.ffv1_golomb.specs.Writing.{WritesPart, WritesSlice}
 use Rattle.ffv1_golomb.specs.Slice.{Standing, ReadsPart, OutOfRangeInPart, ReadsSlice, OutOfRangeInSlice}
 
 pub reads_grey : (luma : Part) (tables : List (List ℤ)) (count : ℕ) (o : Option Area) (old mid : Standing)
@@ -29,3 +31,16 @@ pub late_both : (luma : Part) (tables : List (List ℤ)) (count : ℕ) (o : Opti
 late_both luma tables count o cb old mid some reads late =
     let P : Option Area → Type 0 = λ v. OutOfRangeInSlice (with_chroma luma tables count v) old in
     subst P (sym some) (inr (mid, reads, inl late))
+
+pub writes_grey : (luma : Part) (image : Image) (tables : List (List ℤ)) (count : ℕ) (o : Option Area) (old mid : List ℕ)
+    → o ≡ None → WritesPart image luma old mid → WritesSlice (with_chroma luma tables count o) image old mid
+writes_grey luma image tables count o old mid grey writes =
+    let P : Option Area → Type 0 = λ v. WritesSlice (with_chroma luma tables count v) image old mid in
+    subst P (sym grey) (mid, writes, (mid, (replicate count fresh, refl), refl))
+
+pub writes_both : (luma : Part) (image : Image) (tables : List (List ℤ)) (count : ℕ) (o : Option Area) (cb : Area) (old mid new : List ℕ)
+    → o ≡ Some cb → WritesPart image luma old mid → WritesPart image (part tables count (cb ∷ record cb { plane = 2 } ∷ [])) mid new
+    → WritesSlice (with_chroma luma tables count o) image old new
+writes_both luma image tables count o cb old mid new some writes more =
+    let P : Option Area → Type 0 = λ v. WritesSlice (with_chroma luma tables count v) image old new in
+    subst P (sym some) (mid, writes, (new, more, refl))

@@ -1,8 +1,8 @@
 -- The differences of a slice, written in Golomb-Rice mode. RFC 9043 sections 3.8.2 and 4.8.
-use Rattle.std.specs.Prelude.{◌≡◌, ℕ, List, ◌++◌, length, replicate, ℤ, nat_abs, None}
+use Rattle.std.specs.Prelude.{◌≡◌, ℕ, zero, suc, ◌+◌, ◌/◌, List, [], ◌∷◌, ◌++◌, length, drop, replicate, ℤ, nat_abs, None}
 use Rattle.pic_planes.specs.Picture.{Image}
 use Rattle.ffv1_range.specs.Writing as range
-use Rattle.ffv1_rice.specs.Bits.{bits_of_bytes, padded}
+use Rattle.ffv1_rice.specs.Bits.{number_at}
 use Rattle.ffv1_rice.specs.State.{State, fresh}
 use Rattle.ffv1_rice.specs.Lines.{Written, sample_put, ended}
 use Rattle.ffv1_predict.specs.declared.near.Near.{Near}
@@ -50,9 +50,15 @@ WritesPart image p old new =
 abbrev pub WritesSlice : Slice → Image → List ℕ → List ℕ → Type 0
 WritesSlice s image old new = InTurn (WritesPart image) (parts s) old new
 
--- The content of a slice: what the range coder wrote up to the header's end, with the sentinel, and then the bits of the samples, with
--- zeros that fill the last byte. RFC 9043 section 3.8.1.1.1.
-pub record IsContent (header : range.Writing) (bits content : List ℕ) : Type 0 where
-  pub bytes : List ℕ
-  pub spelled : bits_of_bytes bytes ≡ padded bits
-  pub joined : content ≡ range.part (range.with_sentinel header) ++ bytes
+-- bits as bytes, the highest of each byte first, with zeros that fill the last one
+unfoldable pub packed_in : ℕ → List ℕ → List ℕ
+packed_in zero bits = []
+packed_in (suc more) bits = number_at 8 bits ∷ packed_in more (drop 8 bits)
+
+abbrev pub packed : List ℕ → List ℕ
+packed bits = packed_in ((length bits + 7) / 8) bits
+
+-- The content of a slice: what the range coder wrote up to the header's end, with the sentinel, and then the bits of the samples.
+-- RFC 9043 section 3.8.1.1.1.
+abbrev pub content_of : range.Writing → List ℕ → List ℕ
+content_of header bits = range.part (range.with_sentinel header) ++ packed bits

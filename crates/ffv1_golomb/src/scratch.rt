@@ -14,6 +14,12 @@ pub struct RiceScratch {
     pub(crate) above2: Vec<u8>,
     pub(crate) above: Vec<u8>,
     pub(crate) row: Vec<u8>,
+    pub(crate) line: Gathered,
+}
+
+/// The contexts of a line's samples, by magnitude, and their differences.
+#[derive(Drop)]
+pub(crate) struct Gathered {
     pub(crate) contexts: Vec<u16>,
     pub(crate) differences: Vec<i8>,
 }
@@ -28,7 +34,7 @@ impl Model for RiceScratch {
     ghost view = { λ a. room (vec_len a.states) (vec_len a.row) };
 
     ghost invariant = { λ a. (vec_len a.above2 ≡ vec_len a.row) × (vec_len a.above ≡ vec_len a.row)
-        × (vec_len a.contexts ≡ vec_len a.row) × (vec_len a.differences ≡ vec_len a.row) };
+        × (vec_len a.line.contexts ≡ vec_len a.row) × (vec_len a.line.differences ≡ vec_len a.row) };
 }
 
 impl RiceScratch {
@@ -47,8 +53,10 @@ impl RiceScratch {
             above2,
             above,
             row,
-            contexts,
-            differences,
+            line: Gathered {
+                contexts,
+                differences,
+            },
         })
     }
 }

@@ -85,7 +85,7 @@ unfolding chosen
 chosen-count w state true = refl
 chosen-count w state false = refl
 
-put-count : (w : Writing) (state : ℕ) (bit : Bool) → w.count ≤ (put w state bit).count
+pub put-count : (w : Writing) (state : ℕ) (bit : Bool) → w.count ≤ (put w state bit).count
 unfolding put shifted
 put-count w state bit = count-cases (ltb (chosen w state bit).range 256) _ _ w.count (omega (arith, chosen-count w state bit)) (omega (arith, chosen-count w state bit))
 
@@ -116,7 +116,7 @@ many-bytes p =
     let same : written DEFAULT_TRANSITION (coded p) ≡ put_all (put_all (started DEFAULT_TRANSITION) opening) split.0 = ap (put_all (started DEFAULT_TRANSITION)) split.1 ∙ put_all-append (started DEFAULT_TRANSITION) opening split.0 in
     rw same (omega (arith, opening-count, put_all-count (put_all (started DEFAULT_TRANSITION) opening) split.0))
 
-length-part : (w : Writing) → length (part w) ≡ w.count - 1
+pub length-part : (w : Writing) → length (part w) ≡ w.count - 1
 unfolding part
 length-part w = length-bytes_high_first (w.count - 1) ((w.low + 255) / 256)
 

@@ -146,11 +146,11 @@ pub set_after-kept : (table states : List ℕ) (bits : List (ℕ × Bool)) → I
 set_after-kept table states [] sound kept places = kept
 set_after-kept table states (bit ∷ bits) sound kept places = set_after-kept table (moved table states bit.0 bit.1) bits sound (moved-kept table states bit.0 bit.1 sound kept places.0) places.1
 
-AreStates-append : (a b : List (ℕ × Bool)) → AreStates a → AreStates b → AreStates (a ++ b)
+pub AreStates-append : (a b : List (ℕ × Bool)) → AreStates a → AreStates b → AreStates (a ++ b)
 AreStates-append [] b first second = second
 AreStates-append (x ∷ a) b first second = (first.0, AreStates-append a b first.1 second)
 
-fresh-kept : (table : List ℕ) → IsTransition table → AllKept table fresh
+pub fresh-kept : (table : List ℕ) → IsTransition table → AllKept table fresh
 fresh-kept table sound k small =
     let e : slice_index (replicate 32 128) k ≡ 128 = get_or-replicate 32 k 128 0 small in
     subst (λ (state : ℕ). IsKept table state) (sym e) sound.keeps_first
