@@ -1,0 +1,12 @@
+use Rattle.std.proofs.Common.{refl}
+use Rattle.tl_model.specs.declared.journal.Act.TheVariants as act
+use Rattle.render_core.specs.Board.{of_done}
+use Rattle.edit_desk.proofs.Calls.{does_answers}
+use Rattle.studio.proofs.Gains.{does_grows}
+use Rattle.studio.proofs.calls.edits.MarkCallCall.make.Goals as goal
+
+pub returns-clause-told : goal.returns-clause-told
+returns-clause-told g c = λ kept. does_answers g.M.Media.library c.args.by kept c.args.board.now c.mark.new.self (record { pass = c.args.by; act = act.Mark c.args.self.turns; view = of_done }) c.mark.result refl c.mark.ensures.done
+
+pub returns-clause-grows : goal.returns-clause-grows
+returns-clause-grows g c = does_grows g.M.Media.library c.args.board.now c.mark.new.self (record { pass = c.args.by; act = act.Mark c.args.self.turns; view = of_done }) c.mark.result c.mark.ensures.done

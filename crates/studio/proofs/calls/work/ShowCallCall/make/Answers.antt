@@ -1,0 +1,12 @@
+use Rattle.std.proofs.Common.{refl}
+use Rattle.tl_model.specs.declared.journal.Act.TheVariants as act
+use Rattle.render_core.specs.Board.{of_show}
+use Rattle.edit_desk.proofs.Calls.{does_answers}
+use Rattle.studio.proofs.Gains.{does_grows}
+use Rattle.studio.proofs.calls.work.ShowCallCall.make.Goals as goal
+
+pub returns-clause-told : goal.returns-clause-told
+returns-clause-told g c = λ kept. (does_answers g.M.Media.library c.args.by kept c.args.board.now c.show.new.self (record { pass = c.args.by; act = act.Show c.args.self.n; view = of_show }) c.show.result refl c.show.ensures.done, c.show.ensures.renders)
+
+pub returns-clause-grows : goal.returns-clause-grows
+returns-clause-grows g c = does_grows g.M.Media.library c.args.board.now c.show.new.self (record { pass = c.args.by; act = act.Show c.args.self.n; view = of_show }) c.show.result c.show.ensures.done
