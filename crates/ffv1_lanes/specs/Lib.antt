@@ -1,1 +1,2 @@
+pub mod Blend
 pub mod Residual

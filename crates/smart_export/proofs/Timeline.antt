@@ -26,8 +26,11 @@ run-length f from (suc count) = ap suc (run-length f (from + 1) count)
 pub recipe_at : (s : Segment) (i : ℕ) → i < s.len → slice_get (recipes (cells_of s)) i ≡ Some (recipe_of (cell_at s i))
 recipe_at s i h = let e : 0 + i ≡ i = omega arith in run-get (cell_at s) 0 s.len i h ∙ ap (λ n. Some (recipe_of (cell_at s n))) e
 
+pub cells-length : (s : Segment) → length (cells_of s) ≡ s.len
+cells-length s = run-length (cell_at s) 0 s.len
+
 pub recipes-length : (s : Segment) → length (recipes (cells_of s)) ≡ s.len
-recipes-length s = length-map (cells_of s) recipe_of ∙ run-length (cell_at s) 0 s.len
+recipes-length s = length-map (cells_of s) recipe_of ∙ cells-length s
 
 -- One frame more of a list.
 pub take-next : (rs : List Recipe) (i : ℕ) (r : Recipe) → slice_get rs i ≡ Some r → take (i + 1) rs ≡ take i rs ++ r ∷ []

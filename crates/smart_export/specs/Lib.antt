@@ -1,3 +1,4 @@
+pub mod Numbers
 pub mod Rendered
 pub mod Ends
 pub mod Stop

@@ -9,3 +9,6 @@ mod sequence;
 mod stop;
 
 pub use sequence::export;
+
+#[cfg(test)]
+mod tests;
