@@ -12,7 +12,7 @@ enum Called {
     Other,
 }
 
-fn called(act: &Act) -> Called {
+fn told_as(act: &Act) -> Called {
     match act {
         Act::Want { first, len } => Called::Want(*first, *len),
         Act::Play { n } => Called::Play(*n),
@@ -23,7 +23,7 @@ fn called(act: &Act) -> Called {
 fn expect_calls(rt: &impl Abort, mut roll: Roll, calls: &[Called]) {
     for call in calls {
         let next = roll.next().expect(rt, "a call");
-        assert_eq!(rt; called(&next), *call);
+        assert_eq!(rt; told_as(&next), *call);
     }
     assert!(rt; roll.next().is_none());
 }
