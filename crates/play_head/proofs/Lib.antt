@@ -1,0 +1,3 @@
+pub mod Rolls
+pub mod Desks
+pub mod Turning
