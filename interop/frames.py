@@ -29,6 +29,18 @@ SHAPES = {
 }
 SIZES_AND_GRIDS = (((2, 2), (1, 1)), ((17, 9), (1, 1)), ((17, 9), (2, 2)), ((40, 24), (3, 2)), ((64, 48), (4, 4)))
 TOLD = 3
+# Packets of a few bytes under the record of an own encoder (range coder, no parities), and what they are by hand.
+SMALL_PACKETS = (
+    # chroma, width, height, columns of the grid, packet, kind, place, samples
+    ("yuv420p", 1, 1, 1, "FF FF 00 00 02", "Ok", 0, bytes(3)),
+    ("yuv420p", 1, 1, 1, "", "Empty", 0, b""),
+    ("yuv420p", 1, 1, 1, "FF FF 00 00 03", "Chain", 0, b""),
+    ("yuv420p", 1, 1, 1, "10 00 00 00 02", "NotKey", 0, b""),
+    ("gray", 64, 64, 1, "FF FF 00 00 02", "Overrun", 0, b""),
+    ("gray", 2, 1, 2, "FF FF 00 00 02", "Cover", 1, b""),
+    ("gray", 2, 1, 2, "FF FF 00 00 02 FF FF 00 00 02", "Cover", 0, b""),
+    ("gray", 2, 2, 1, "FE EB 00 00 02", "Ok", 0, bytes(4)),
+)
 
 
 class Sample(NamedTuple):
@@ -104,12 +116,21 @@ def frame_faults(parameters: Parameters, clip: frame_clips.FrameClip, answers: L
     return faults
 
 
+def small_packets() -> Iterator[Tuple[str, Parameters, int, int, bytes, Tuple]]:
+    """The rows of that table: a name, the parameters, the size, the packet, the answer."""
+    for chroma, width, height, columns, packet, *wanted in SMALL_PACKETS:
+        own = own_parameters(SHAPES[chroma], RANGE, columns, 1)._replace(has_parity=False)
+        yield f"{width}x{height} {chroma} {packet}", own, width, height, bytes.fromhex(packet), tuple(wanted)
+
+
 # The part `ffv1`
 
 
 def check_reader(report: Report, work: Path):
     """The reader decodes ffmpeg's packets to ffmpeg's frames, and ffmpeg and the reader those of the writer."""
     check_record_reader(report)
+    rows = [differs(name, ffv1.answer(*where), wanted) for name, *where, wanted in small_packets()]
+    report.check("packets of a few bytes", rows)
     for clip, made, parameters in clips(report, work):
         answers = [ffv1.answer(parameters, clip.width, clip.height, packet) for packet in made.clip.packets()]
         if frame_clips.has_wrong_cells(parameters, clip.width, clip.height):
@@ -138,6 +159,7 @@ def check_frames(report: Report, work: Path):
     check_whole(report, codec, work)
     check_damaged(report, codec)
     check_encoded(report, codec, work)
+    check_small(report, codec)
     check_faulty_records(report, codec)
     check_arguments(report, codec)
 
@@ -191,6 +213,14 @@ def check_encoded(report: Report, codec: Library, work: Path):
             decoded = by_ffmpeg(sample, packets, work / "encoded")
             faults.append("" if decoded == wanted else "ffmpeg reads other samples")
         report.check(f"library, {sample.name}: encoded", faults)
+
+
+def check_small(report: Report, codec: Library):
+    faults = []
+    for name, own, width, height, packet, wanted in small_packets():
+        size = sum(across * down for across, down in ffv1.plane_sizes(own.shape, width, height))
+        faults.append(differs(name, tuple(codec.decode(own_record(own), width, height, packet, size)), wanted))
+    report.check("library, packets of a few bytes", faults)
 
 
 def told(kinds: Counter) -> str:
