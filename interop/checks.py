@@ -1,6 +1,8 @@
 #!/usr/bin/env python3
 """All checks of this folder, over the program that TIMELINE_PROGRAM or ../timeline names. `run` calls it."""
 
+import os
+import shlex
 import shutil
 import sys
 from pathlib import Path
@@ -14,7 +16,12 @@ from ids import check_ids
 from kept import check_kept
 from real import check_real
 from report import Report
+from segments import check_segments
+from texts import check_lists
 from tools import HERE
+
+# A program that reads edit lists as `texts` says, where there is one.
+LIST_READER = shlex.split(os.environ.get("TIMELINE_EDL", ""))
 
 PARTS = {
     "ids": lambda report, work: check_ids(report),
@@ -26,7 +33,13 @@ PARTS = {
     "bytes": check_each_byte,
     "ffv1": check_reader,
     "frames": check_frames,
+    "lists": lambda report, work: check_edit_lists(report),
 }
+
+
+def check_edit_lists(report: Report):
+    check_lists(report, LIST_READER)
+    check_segments(report)
 
 
 def attempt(report: Report, part: str, work: Path):

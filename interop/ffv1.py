@@ -250,3 +250,13 @@ def reaches_ends(parameters: Parameters, width: int, height: int) -> bool:
     sides = ((width, parameters.columns, shape.shift_across), (height, parameters.rows, shape.shift_down))
     starts = [(size, (cells - 1) * size // cells, shift) for size, cells, shift in sides]
     return all((start >> shift) + divided_up(size - start, shift) == divided_up(size, shift) for size, start, shift in starts)
+
+
+def covered(parameters: Parameters, width: int, height: int) -> bytes:
+    """For each sample, plane by plane, whether one of the grid's cells has it: 1 or 0."""
+    planes = blank_planes(parameters.shape, width, height)
+    for cell in range(parameters.columns * parameters.rows):
+        row, column = divmod(cell, parameters.columns)
+        for plane, (left, top, across, down) in zip(planes, areas(parameters, width, height, Header(column, row, 1, 1, 0, 0))):
+            plane.put(left, top, [b"\1" * across] * down)
+    return b"".join(plane.samples for plane in planes)

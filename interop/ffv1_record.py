@@ -1,6 +1,6 @@
 """Reads FFV1 configuration records, and writes those of an own encoder: docs/FORMATS.md "The configuration record", anew."""
 
-from typing import List, NamedTuple, Sequence
+from typing import Dict, List, NamedTuple, Sequence
 
 from ffv1_bits import (
     DEFAULT_ONE_STATE,
@@ -19,6 +19,7 @@ VERSION, MICRO_VERSION = 3, 4
 LEAST_BYTES, PARITY_BYTES = 6, 4
 MOST_SLICES, MOST_SETS, MOST_SCALE, MOST_SHIFT = 1024, 8, 32_768, 2
 HALF_TABLE, TABLES = 128, 5
+ONE_BIT = {"chroma_planes", "extra_plane", "states_coded"}
 OWN_RUNS = ((1, 2, 4, 16, 105),) * 3 + ((128,),) * 2
 
 
@@ -158,25 +159,50 @@ def own_parameters(shape: Shape, coder: int, columns: int, rows: int) -> Paramet
     return Parameters(coder, DEFAULT_TRANSITION, shape, columns, rows, sets, True, 1)
 
 
-def own_record(own: Parameters) -> bytes:
-    """The bytes of such a record."""
+def own_fields(own: Parameters) -> Dict[str, int]:
+    """The fields of such a record in their order, but for the runs, by the names of RFC 9043 section 4.2."""
+    return {
+        "version": VERSION,
+        "micro_version": MICRO_VERSION,
+        "coder_type": own.coder,
+        "colorspace_type": 0,
+        "bits_per_raw_sample": 8,
+        "chroma_planes": int(own.shape.has_chroma),
+        "log2_h_chroma_subsample": own.shape.shift_across,
+        "log2_v_chroma_subsample": own.shape.shift_down,
+        "extra_plane": 0,
+        "num_h_slices_minus1": own.columns - 1,
+        "num_v_slices_minus1": own.rows - 1,
+        "quant_table_set_count": len(own.sets),
+        "states_coded": 0,
+        "ec": int(own.has_parity),
+        "intra": own.intra,
+    }
+
+
+def write_record(fields: Dict[str, int], deltas: Sequence[int] = (), runs: Sequence[Sequence[int]] = OWN_RUNS) -> bytes:
+    """The record of these fields, with deltas behind coder_type and one set of runs."""
     writer, states = RangeWriter(), fresh_set()
-    number = lambda value: writer.symbol(states, value)
-    bit = lambda value: writer.bit(states, 0, value)
-    for value in (VERSION, MICRO_VERSION, own.coder, 0, 8):
-        number(value)
-    bit(own.shape.has_chroma)
-    number(own.shape.shift_across)
-    number(own.shape.shift_down)
-    bit(0)
-    for value in (own.columns - 1, own.rows - 1, len(own.sets)):
-        number(value)
-    for runs in OWN_RUNS:
-        run_states = fresh_set()
-        for length in runs:
-            writer.symbol(run_states, length - 1)
-    bit(0)
-    number(int(own.has_parity))
-    number(own.intra)
+    for name, value in fields.items():
+        if name in ONE_BIT:
+            writer.bit(states, 0, value)
+        else:
+            writer.symbol(states, value)
+        if name == "coder_type":
+            for delta in deltas:
+                writer.symbol(states, delta, signed=True)
+        if name == "quant_table_set_count":
+            write_runs(writer, runs)
     part = writer.finish()
     return part + parity(part).to_bytes(PARITY_BYTES, "big")
+
+
+def write_runs(writer: RangeWriter, runs: Sequence[Sequence[int]]):
+    for lengths in runs:
+        states = fresh_set()
+        for length in lengths:
+            writer.symbol(states, length - 1)
+
+
+def own_record(own: Parameters) -> bytes:
+    return write_record(own_fields(own))

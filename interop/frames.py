@@ -14,6 +14,7 @@ import library
 from damage import Damaged, Picture, bytes_changed, cuts, damaged, picture_of
 from ffv1_record import RANGE, RICE, Parameters, Shape, own_parameters, own_record, read_record
 from library import Library
+from records import check_faulty_records, check_record_reader
 from report import Report, differs
 from written import written_file
 
@@ -28,6 +29,18 @@ SHAPES = {
 }
 SIZES_AND_GRIDS = (((2, 2), (1, 1)), ((17, 9), (1, 1)), ((17, 9), (2, 2)), ((40, 24), (3, 2)), ((64, 48), (4, 4)))
 TOLD = 3
+# Packets of a few bytes under the record of an own encoder (range coder, no parities), and what they are by hand.
+SMALL_PACKETS = (
+    # chroma, width, height, columns of the grid, packet, kind, place, samples
+    ("yuv420p", 1, 1, 1, "FF FF 00 00 02", "Ok", 0, bytes(3)),
+    ("yuv420p", 1, 1, 1, "", "Empty", 0, b""),
+    ("yuv420p", 1, 1, 1, "FF FF 00 00 03", "Chain", 0, b""),
+    ("yuv420p", 1, 1, 1, "10 00 00 00 02", "NotKey", 0, b""),
+    ("gray", 64, 64, 1, "FF FF 00 00 02", "Overrun", 0, b""),
+    ("gray", 2, 1, 2, "FF FF 00 00 02", "Cover", 1, b""),
+    ("gray", 2, 1, 2, "FF FF 00 00 02 FF FF 00 00 02", "Cover", 0, b""),
+    ("gray", 2, 2, 1, "FE EB 00 00 02", "Ok", 0, bytes(4)),
+)
 
 
 class Sample(NamedTuple):
@@ -90,18 +103,40 @@ def clips(report: Report, work: Path) -> Iterator[Tuple[frame_clips.FrameClip, f
             report.check(f"{clip.name()}: made", f"{type(fault).__name__}: {fault}")
 
 
+def frame_faults(parameters: Parameters, clip: frame_clips.FrameClip, answers: List, frames: List[bytes]) -> List[str]:
+    """Each answer is Ok and has the samples of ffmpeg's frame; those that no slice has are 0, whatever ffmpeg has there."""
+    mask = ffv1.covered(parameters, clip.width, clip.height)
+    faults = []
+    for number, ((kind, place, samples), frame) in enumerate(zip(answers, frames)):
+        wanted = bytes(sample if is_covered else 0 for sample, is_covered in zip(frame, mask))
+        if (kind, place) != ("Ok", 0):
+            faults.append(f"frame {number} is {kind} at {place}")
+        elif samples != wanted:
+            faults.append(f"frame {number} has other samples")
+    return faults
+
+
+def small_packets() -> Iterator[Tuple[str, Parameters, int, int, bytes, Tuple]]:
+    """The rows of that table: a name, the parameters, the size, the packet, the answer."""
+    for chroma, width, height, columns, packet, *wanted in SMALL_PACKETS:
+        own = own_parameters(SHAPES[chroma], RANGE, columns, 1)._replace(has_parity=False)
+        yield f"{width}x{height} {chroma} {packet}", own, width, height, bytes.fromhex(packet), tuple(wanted)
+
+
 # The part `ffv1`
 
 
 def check_reader(report: Report, work: Path):
     """The reader decodes ffmpeg's packets to ffmpeg's frames, and ffmpeg and the reader those of the writer."""
+    check_record_reader(report)
+    rows = [differs(name, ffv1.answer(*where), wanted) for name, *where, wanted in small_packets()]
+    report.check("packets of a few bytes", rows)
     for clip, made, parameters in clips(report, work):
         answers = [ffv1.answer(parameters, clip.width, clip.height, packet) for packet in made.clip.packets()]
         if frame_clips.has_wrong_cells(parameters, clip.width, clip.height):
             report.check(f"{clip.name()}: refused", differs("the fault", {it[0] for it in answers}, {"Header"}))
         else:
-            same = [answer == ("Ok", 0, frame) for answer, frame in zip(answers, made.frames)]
-            report.check(f"{clip.name()}: frames", "" if all(same) else f"other samples, or {answers[0][:2]}")
+            report.check(f"{clip.name()}: frames", frame_faults(parameters, clip, answers, made.frames))
     for sample in made_up():
         packets = [it.packet() for it in sample.pictures]
         wanted = [samples_of(it) for it in sample.pictures]
@@ -124,6 +159,8 @@ def check_frames(report: Report, work: Path):
     check_whole(report, codec, work)
     check_damaged(report, codec)
     check_encoded(report, codec, work)
+    check_small(report, codec)
+    check_faulty_records(report, codec)
     check_arguments(report, codec)
 
 
@@ -133,8 +170,7 @@ def check_whole(report: Report, codec: Library, work: Path):
         packets, record, size = made.clip.packets(), made.clip.record, len(made.frames[0])
         answers = [codec.decode(record, clip.width, clip.height, it, size) for it in packets]
         if not frame_clips.has_wrong_cells(parameters, clip.width, clip.height):
-            same = [answer == ("Ok", 0, frame) for answer, frame in zip(answers, made.frames)]
-            report.check(f"library, {clip.name()}: frames", "" if all(same) else f"other samples, or {answers[0][:2]}")
+            report.check(f"library, {clip.name()}: frames", frame_faults(parameters, clip, answers, made.frames))
         if (clip.width, clip.height, clip.chroma) == (17, 9, "yuv420p"):
             changes = chain(cuts(packets[0], 5), bytes_changed(parameters, packets[0], 5))
             check_answers(report, f"library, {clip.name()}", codec, (record, parameters, clip.width, clip.height), changes)
@@ -152,9 +188,8 @@ def check_answers(report: Report, name: str, codec: Library, where: Tuple, packe
         if found != wanted:
             other = "other samples" if found[:2] == wanted[:2] else f"{found[:2]}, not {wanted[:2]}"
             faults.append(f"{change}: {other}")
-    told = ", ".join(f"{kind} {count}" for kind, count in sorted(kinds.items()))
     more = [f"and {len(faults) - TOLD} more"] if len(faults) > TOLD else []
-    report.check(f"{name}: {told}", faults[:TOLD] + more)
+    report.check(f"{name}: {told(kinds)}", faults[:TOLD] + more)
 
 
 def check_damaged(report: Report, codec: Library):
@@ -178,6 +213,18 @@ def check_encoded(report: Report, codec: Library, work: Path):
             decoded = by_ffmpeg(sample, packets, work / "encoded")
             faults.append("" if decoded == wanted else "ffmpeg reads other samples")
         report.check(f"library, {sample.name}: encoded", faults)
+
+
+def check_small(report: Report, codec: Library):
+    faults = []
+    for name, own, width, height, packet, wanted in small_packets():
+        size = sum(across * down for across, down in ffv1.plane_sizes(own.shape, width, height))
+        faults.append(differs(name, tuple(codec.decode(own_record(own), width, height, packet, size)), wanted))
+    report.check("library, packets of a few bytes", faults)
+
+
+def told(kinds: Counter) -> str:
+    return ", ".join(f"{kind} {count}" for kind, count in sorted(kinds.items()))
 
 
 def check_arguments(report: Report, codec: Library):
