@@ -87,15 +87,13 @@ def read_record(record: bytes) -> Parameters:
 
 
 def read_fields(fields: Fields) -> Parameters:
-    version, micro_version = fields.number(), fields.number()
-    need(version == VERSION, "Version")
-    need(micro_version == MICRO_VERSION, "Micro")
+    need(fields.number() == VERSION, "Version")
+    need(fields.number() == MICRO_VERSION, "Micro")
     coder = fields.number()
     need(coder <= RANGE_WITH_TABLE, "Coder")
     transition = read_transition(fields) if coder == RANGE_WITH_TABLE else DEFAULT_TRANSITION
-    color, depth = fields.number(), fields.number()
-    need(color == 0, "Color")
-    need(depth in (0, 8), "Depth")
+    need(fields.number() == 0, "Color")
+    need(fields.number() in (0, 8), "Depth")
     shape = read_shape(fields)
     columns, rows = fields.number() + 1, fields.number() + 1
     need(columns * rows <= MOST_SLICES, "Slices")
@@ -104,8 +102,9 @@ def read_fields(fields: Fields) -> Parameters:
     sets = [read_set(fields.reader) for _ in range(set_count)]
     for _ in sets:
         need(not fields.bit(), "InitialStates")
-    error_correction, intra = fields.number(), fields.number()
+    error_correction = fields.number()
     need(error_correction <= 1, "Ec")
+    intra = fields.number()
     return Parameters(coder, transition, shape, columns, rows, sets, error_correction == 1, intra)
 
 
@@ -118,9 +117,9 @@ def read_transition(fields: Fields) -> Transition:
 
 
 def read_shape(fields: Fields) -> Shape:
-    has_chroma, across, down, has_extra = fields.bit(), fields.number(), fields.number(), fields.bit()
+    has_chroma, across, down = fields.bit(), fields.number(), fields.number()
     need(not has_chroma or max(across, down) <= MOST_SHIFT, "Subsample")
-    need(not has_extra, "ExtraPlane")
+    need(not fields.bit(), "ExtraPlane")
     return Shape(True, across, down) if has_chroma else Shape(False)
 
 
