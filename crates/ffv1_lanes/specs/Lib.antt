@@ -1,2 +1,3 @@
 pub mod Blend
+pub mod Lanes
 pub mod Residual
