@@ -15,3 +15,6 @@ pub use law::{packs_bits, reads_slices};
 pub use read_slice::decode_rice_slice;
 pub use scratch::RiceScratch;
 pub use write_part::encode_rice_slice;
+
+#[cfg(test)]
+mod tests;
