@@ -10,3 +10,4 @@ pub mod WritePlane
 pub mod Packing
 pub mod Back
 pub mod BackSlice
+pub mod WrittenBits

@@ -1,13 +1,14 @@
 -- A slice that was written is read back.
-use Rattle.std.specs.Prelude.{◌≡◌, ℕ, ◌<◌, List, [], ◌∷◌, slice_index, Ok}
+use Rattle.std.specs.Prelude.{◌≡◌, ℕ, ◌+◌, ◌<◌, List, [], ◌∷◌, ◌++◌, length, slice_index, Ok}
 use Rattle.std.specs.List.{All}
 use Rattle.pic_planes.specs.Picture.{Image, IsPicture}
+use Rattle.ffv1_range.specs.Reading as range
 use Rattle.ffv1_rice.specs.Bits.{bits_of_bytes, padded}
 use Rattle.ffv1_slice.specs.declared.area.Area.{Area}
 use Rattle.ffv1_slice.specs.Area.{IsWithin, with_rows}
 use Rattle.ffv1_slice.specs.Slice.{Slice}
 use Rattle.ffv1_slice.specs.Writing.{samples}
-use Rattle.ffv1_golomb.specs.Slice.{Gives}
+use Rattle.ffv1_golomb.specs.Slice.{Gives, sample_bytes}
 use Rattle.ffv1_golomb.specs.Writing.{WritesSlice, packed}
 
 -- a picture with the samples of another in some areas
@@ -29,3 +30,13 @@ ReadsSlices = (s : Slice) (image before : Image) (bits bytes : List ℕ) → Are
 -- The bytes of a list of bits are these, where they spell it.
 abbrev pub PacksBits : Type 0
 PacksBits = (bytes bits : List ℕ) → ((k : ℕ) → slice_index bytes k < 256) → bits_of_bytes bytes ≡ padded bits → bytes ≡ packed bits
+
+-- So are the bytes of the definition.
+abbrev pub ReadsPacked : Type 0
+ReadsPacked = (s : Slice) (image before : Image) (bits : List ℕ) → AreInside image s → WritesSlice s image [] bits
+    → Gives s (packed bits) before (copied image s.chroma.areas (copied image s.luma.areas before)) (Ok tt)
+
+-- Where the range coder takes one byte more than its part has, the bytes behind that part are those of the samples.
+abbrev pub FindsBits : Type 0
+FindsBits = (part more : List ℕ) (header : range.Reading) → (range.after_bit header 129).taken ≡ length part + 1
+    → sample_bytes (part ++ more) header ≡ more

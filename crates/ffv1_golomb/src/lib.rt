@@ -11,7 +11,10 @@ mod write_part;
 mod write_plane;
 mod write_row;
 
-pub use law::{packs_bits, reads_slices};
+pub use law::{finds_bits, packs_bits, reads_slices};
 pub use read_slice::decode_rice_slice;
 pub use scratch::RiceScratch;
 pub use write_part::encode_rice_slice;
+
+#[cfg(test)]
+mod tests;
