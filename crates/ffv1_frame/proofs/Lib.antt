@@ -2,6 +2,7 @@ pub mod Chains
 pub mod Frames
 pub mod SliceSteps
 pub mod Packets
+pub mod RiceWritings
 pub mod Writings
 pub mod Passages
 pub mod SamplesBack
