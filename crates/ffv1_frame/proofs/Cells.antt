@@ -1,5 +1,5 @@
 -- The cells of a grid: their areas lie within the picture, and reach each of its samples.
-use Rattle.std.proofs.Common.{◌≡◌, ℕ, zero, suc, ◌+◌, ◌*◌, ◌/◌, ◌%◌, ◌<◌, ◌≤◌, List, [], ◌∷◌, get_or, ◌⊎◌, refl, sym, subst, arith, inl, inr, Some}
+use Rattle.std.proofs.Common.{◌^◌, length, map, ◌≡◌, ℕ, zero, suc, ◌+◌, ◌*◌, ◌/◌, ◌%◌, ◌<◌, ◌≤◌, List, [], ◌∷◌, get_or, ◌⊎◌, refl, sym, ◌∙◌, ap, subst, arith, inl, inr, Some}
 use Rattle.std.specs.List.{AllByRecursion}
 use Rattle.std.proofs.Math.Nat.{mul-le-mul_right}
 use Rattle.std.proofs.lemmas.Nat.{mod_below, div_below, div-mul-add, mod-mul-add}
@@ -10,9 +10,9 @@ use Rattle.pic_planes.specs.declared.shape.Chroma.TheVariants.{Grey, Shifts}
 use Rattle.pic_planes.specs.Shape.{Layout, layout, AreShifts, shifted_up, plane_count, plane_width, plane_height}
 use Rattle.pic_planes.specs.Picture.{Image, IsPicture, IsPlane, plane_of}
 use Rattle.ffv1_record.specs.Parameters.{Parameters, IsRecord, runs_of, tables_of, context_count_of}
-use Rattle.ffv1_record.specs.Tables.{TableSet, AreSetRuns, AreContexts}
+use Rattle.ffv1_record.specs.Tables.{TableSet, set_of, AreSetRuns, AreContexts, ScalesFit, max_scale, next_scale, scale_after}
 use Rattle.ffv1_record.specs.Suits.{Suits, ReachesEnds}
-use Rattle.ffv1_record.proofs.Contexts.{contexts, record-contexts}
+use Rattle.ffv1_record.proofs.Contexts.{contexts, record-contexts, count-at}
 use Rattle.ffv1_slice.specs.declared.area.Area.{Area}
 use Rattle.ffv1_slice.specs.declared.header.Header.{Header}
 use Rattle.ffv1_slice.specs.Area.{IsWithin, chroma_areas}
@@ -84,6 +84,20 @@ fits_contexts : (p : Parameters) → IsRecord p → AreContexts (tables_of p 0) 
 fits_contexts p sound =
     record-contexts p (runs_of p) sound.tables (λ k lt. contexts (get_or (runs_of p) k []) (All-get_or AreSetRuns (runs_of p) k [] lt sound.sets.each)) 0
     (omega (arith, sound.sets.some, length-map p.sets (λ (set : TableSet). set.runs)))
+
+scale_few : (scale : ℕ) (runs : List (List ℕ)) → ScalesFit scale runs → scale ≤ max_scale → scale_after scale runs ≤ max_scale
+scale_few scale [] fits few = few
+scale_few scale (r ∷ more) fits few = scale_few (next_scale scale r) more fits.1 fits.0
+
+-- the first set has few contexts
+pub contexts_few : (p : Parameters) → IsRecord p → context_count_of p 0 ≤ 2 ^ 16
+contexts_few p sound =
+    let sets : List (List (List ℕ)) = runs_of p in
+    let first : List (List ℕ) = get_or sets 0 [] in
+    let some : 0 < length sets = omega (arith, sound.sets.some) in
+    let is : AreSetRuns first = All-get_or AreSetRuns sets 0 [] some sound.sets.each in
+    let count : context_count_of p 0 ≡ (set_of first).context_count = ap (λ (l : List TableSet). get_or (map (λ s. s.context_count) l) 0 0) sound.tables ∙ count-at sets 0 some in
+    omega (arith, count, scale_few 1 first is.scales (omega arith))
 
 pub is_cell : (p : Parameters) (image : Image) (cell : ℕ) → IsRecord p → IsPicture image → Suits p image.shape → cell < p.columns * p.rows → IsCell p image cell
 is_cell p image cell sound picture suits lt =

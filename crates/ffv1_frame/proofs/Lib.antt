@@ -5,6 +5,7 @@ pub mod Stages
 pub mod OneDecoding
 pub mod DecodingExists
 pub mod Packets
+pub mod RiceWritings
 pub mod Writings
 pub mod Passages
 pub mod SamplesBack

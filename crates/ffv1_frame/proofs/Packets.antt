@@ -1,5 +1,5 @@
 -- Slices one after the other, and the contents of the cells of a grid.
-use Rattle.std.proofs.Common.{◌≡◌, ℕ, ◌+◌, ◌-◌, ◌*◌, ◌<◌, ◌≤◌, Bool, true, false, List, [], ◌∷◌, ◌++◌, length, take, drop, refl, sym, ◌∙◌, ap, subst, arith, append_assoc, inl, inr}
+use Rattle.std.proofs.Common.{◌≡◌, ℕ, zero, suc, ◌+◌, ◌-◌, ◌*◌, ◌<◌, ◌≤◌, Bool, true, false, List, [], ◌∷◌, ◌++◌, length, take, drop, refl, sym, ◌∙◌, ap, subst, arith, append_assoc, inl, inr}
 use Rattle.std.specs.Prelude.{slice_index_or}
 use Rattle.std.proofs.lemmas.Bool.{cases_lt}
 use Rattle.std.proofs.lemmas.List.{append-nil, length-append, drop_at, take_all, get_or_append_left, get_or_push}
@@ -10,8 +10,11 @@ use Rattle.tl_base.specs.Parity.{parity}
 use Rattle.tl_limits.specs.Limits.{max_slice_bytes}
 use Rattle.pic_planes.specs.Picture.{Image}
 use Rattle.ffv1_record.specs.Parameters.{Parameters}
+use Rattle.ffv1_golomb.specs.Writing as rice
+use Rattle.ffv1_range.specs.Writing.{Writing, part, with_sentinel}
+use Rattle.ffv1_slice.specs.Slice as slices
 use Rattle.ffv1_frame.specs.Packet.{bytes_of}
-use Rattle.ffv1_frame.specs.Written.{WritesContent, AreContents, IsPacket, footer_of, slice_of, packet_of}
+use Rattle.ffv1_frame.specs.Written.{IsContent, IsRangeContent, IsRiceContent, WritesContent, AreContents, IsPacket, footer_of, slice_of, packet_of}
 
 -- ---- a slice more
 pub plain_slice : (ec : Bool) (packet content size first second : List ℕ) → ec ≡ false → first ≡ packet ++ content → size ≡ big_bytes 3 (length content) → second ≡ first ++ size
@@ -43,6 +46,27 @@ packet_more ec contents content packet next before is =
     is ∙ ap (λ (l : List ℕ). l ++ bytes_of (slice_of ec content)) before
     ∙ ap (λ (l : List ℕ). packet_of ec contents ++ l) (sym (append-nil (bytes_of (slice_of ec content))))
     ∙ sym (flat_map-append (λ (c : List ℕ). bytes_of (slice_of ec c)) contents (content ∷ []))
+
+-- ---- a content by its coder
+pub by_range : (coder : ℕ) (slice : slices.Slice) (image : Image) (header : Writing) (content : List ℕ) → (coder ≡ 0 → ⊥) → IsRangeContent slice image header content → IsContent coder slice image header content
+by_range zero slice image header content some is = absurd (some refl)
+by_range (suc coder) slice image header content some is = is
+
+pub by_rice : (coder : ℕ) (slice : slices.Slice) (image : Image) (header : Writing) (content : List ℕ) → coder ≡ 0 → IsRiceContent slice image header content → IsContent coder slice image header content
+by_rice zero slice image header content none is = is
+by_rice (suc coder) slice image header content none is = absurd (omega arith)
+
+-- a content as a writer of bits gives it
+pub rice_is : (slice wanted : slices.Slice) (image : Image) (header wanted_header : Writing) (start bits front samples lent content : List ℕ) → slice ≡ wanted → header ≡ wanted_header → start ≡ []
+    → rice.WritesSlice slice image start bits → front ≡ part (with_sentinel header) → samples ≡ rice.packed bits → lent ≡ samples → content ≡ front ++ lent → IsRiceContent wanted image wanted_header content
+rice_is slice wanted image header wanted_header start bits front samples lent content is header_is none written front_is packed lent_is joined =
+    let From : List ℕ → Type 0 = λ l. rice.WritesSlice slice image l bits in
+    let Of : slices.Slice → Type 0 = λ s. rice.WritesSlice s image [] bits in
+    record {
+      bits = bits;
+      samples = subst Of is (subst From none written);
+      joined = joined ∙ ap (λ (l : List ℕ). front ++ l) (lent_is ∙ packed) ∙ ap (λ (l : List ℕ). l ++ rice.packed bits) (front_is ∙ ap (λ (w : Writing). part (with_sentinel w)) header_is);
+    }
 
 -- ---- the contents of the first cells
 -- A packet with the slices of the first cells.

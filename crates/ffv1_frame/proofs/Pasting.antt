@@ -11,7 +11,8 @@ use Rattle.ffv1_slice.specs.declared.area.Area.{Area}
 use Rattle.ffv1_slice.specs.Area.{below, with_first, with_rows}
 use Rattle.ffv1_slice.specs.Slice.{Slice}
 use Rattle.ffv1_slice.specs.Writing.{first_samples, samples_from, samples}
-use Rattle.ffv1_frame.proofs.SlicesBack.{with_areas, after_slice}
+use Rattle.ffv1_golomb.specs.Law.{copied}
+use Rattle.ffv1_frame.proofs.SlicesBack.{after_slice}
 
 -- ---- a row
 pasted_there : (old row : List ℕ) (x k : ℕ) → x ≤ k → k < x + length row → x + length row ≤ length old → slice_index (pasted old x row) k ≡ slice_index row (k - x)
@@ -202,18 +203,18 @@ abbrev pub FitAll : Image → List Area → Type 0
 FitAll image [] = Unit {0}
 FitAll image (area ∷ more) = Fits image area area.height × FitAll image more
 
-areas_copied : (image before : Image) (areas : List Area) → HasSizes image before → FitAll image areas → Copies image before (with_areas image areas before) (InAreas areas)
+areas_copied : (image before : Image) (areas : List Area) → HasSizes image before → FitAll image areas → Copies image before (copied image areas before) (InAreas areas)
 areas_copied image before [] sizes fits = nothing_copied image before sizes
 areas_copied image before (area ∷ more) sizes fits =
     let next : Image = with_rows before area (samples image area) in
     let first = rows_copied image before area area.height sizes fits.0 in
-    both_copied image before next (with_areas image more next) (InRowsOf area area.height) (InAreas more) first (areas_copied image next more first.sizes fits.1)
+    both_copied image before next (copied image more next) (InRowsOf area area.height) (InAreas more) first (areas_copied image next more first.sizes fits.1)
 
 abbrev pub InSlice : Slice → ℕ → ℕ → ℕ → Type 0
 InSlice slice plane y x = InAreas slice.luma.areas plane y x ⊎ InAreas slice.chroma.areas plane y x
 
 pub slice_copied : (image before : Image) (slice : Slice) → HasSizes image before → FitAll image slice.luma.areas → FitAll image slice.chroma.areas → Copies image before (after_slice slice image before) (InSlice slice)
 slice_copied image before slice sizes luma chroma =
-    let next : Image = with_areas image slice.luma.areas before in
+    let next : Image = copied image slice.luma.areas before in
     let first = areas_copied image before slice.luma.areas sizes luma in
-    both_copied image before next (with_areas image slice.chroma.areas next) (InAreas slice.luma.areas) (InAreas slice.chroma.areas) first (areas_copied image next slice.chroma.areas first.sizes chroma)
+    both_copied image before next (copied image slice.chroma.areas next) (InAreas slice.luma.areas) (InAreas slice.chroma.areas) first (areas_copied image next slice.chroma.areas first.sizes chroma)

@@ -4,7 +4,8 @@ use Rattle.std.specs.Prelude.{slice_index_or}
 use Rattle.std.proofs.Math.Nat.{mul-le-mul_right}
 use Rattle.std.proofs.lemmas.Bool.{cases_lt}
 use Rattle.std.proofs.lemmas.List.{length-map, length-replicate, get_or-replicate, get_or_past, get_or-map, ext_get_or}
-use Rattle.tl_limits.specs.Limits.{max_packet_bytes}
+use Rattle.tl_limits.specs.Limits.{max_slice_bytes, max_packet_bytes}
+use Rattle.std.proofs.lemmas.List.Elements.{All-get_or}
 use Rattle.pic_planes.specs.declared.shape.Chroma.{Chroma}
 use Rattle.pic_planes.specs.declared.shape.Chroma.TheVariants.{Grey, Shifts}
 use Rattle.pic_planes.specs.Shape.{Layout, layout, plane_count, plane_width, plane_height}
@@ -18,7 +19,7 @@ use Rattle.ffv1_frame.specs.Packet.{Slice, no_slice, EndsWith}
 use Rattle.ffv1_frame.specs.Cover.{AreCovered}
 use Rattle.ffv1_frame.specs.Frame.{SamplesGive, DecodesTo, HeaderGives, AreHeaders, IsKeyFrame, IsWhole}
 use Rattle.ffv1_frame.specs.Written.{cell_header, cell_slice, slice_of, packet_of, AreContents, IsPacket, IsReadBack}
-use Rattle.ffv1_frame.proofs.SliceSteps.{filled-shape, range-samples}
+use Rattle.ffv1_frame.proofs.SliceSteps.{filled-shape}
 use Rattle.ffv1_frame.proofs.SlicesBack.{after_slice}
 use Rattle.ffv1_frame.proofs.ContentsBack.{CellRead, cell_read}
 use Rattle.ffv1_frame.proofs.Pasting.{HasSizes, Copies, InSlice, nothing_copied, both_copied, copied_at, slice_copied}
@@ -119,7 +120,6 @@ all_right p image sound picture suits =
 -- ---- decoding
 -- What is known of a packet that was written.
 record Known (p : Parameters) (image : Image) (contents : List (List ℕ)) : Type 0 where
-  coder : p.coder_type ≢ 0
   sound : IsRecord p
   picture : IsPicture image
   suits : Suits p image.shape
@@ -129,9 +129,9 @@ record Known (p : Parameters) (image : Image) (contents : List (List ℕ)) : Typ
 slice-is : (ec : Bool) (contents : List (List ℕ)) (i : ℕ) → i < length contents → slice_index_or (slices_of ec contents) i no_slice ≡ slice_of ec (get_or contents i [])
 slice-is ec contents i lt = get_or-map (slice_of ec) contents i [] no_slice lt
 
-read_at : (p : Parameters) (image : Image) (contents : List (List ℕ)) (i : ℕ) → Known p image contents → i < length contents → CellRead p image i (get_or contents i [])
+read_at : (p : Parameters) (image : Image) (contents : List (List ℕ)) (i : ℕ) → Known p image contents → i < length contents → CellRead p.coder_type p image i (get_or contents i [])
 read_at p image contents i known lt =
-    cell_read p image i (get_or contents i []) (is_cell p image i known.sound known.picture known.suits (omega (arith, lt, known.all))) (known.are.each i lt)
+    cell_read p image i (get_or contents i []) (is_cell p image i known.sound known.picture known.suits (omega (arith, lt, known.all))) (All-get_or (λ (c : List ℕ). length c ≤ max_slice_bytes) contents i [] lt known.are.short) (known.are.each i lt)
 
 header_gives : (p : Parameters) (image : Image) (contents : List (List ℕ)) (i : ℕ) (known : Known p image contents) (lt : i < length contents)
     → HeaderGives p i (slice_index_or (slices_of p.ec contents) i no_slice) (read_at p image contents i known lt).reading (Ok (cell_header p.columns i))
@@ -146,7 +146,7 @@ decodes p image contents (suc n) known within =
     let read = read_at p image contents n known lt in
     let slice : slices.Slice = cell_slice p image.shape n in
     let content : get_or contents n [] ≡ (slice_index_or (slices_of p.ec contents) n no_slice).content = ap (λ (s : Slice). s.content) (sym (slice-is p.ec contents n lt)) in
-    let given : SamplesGive p.coder_type slice (get_or contents n []) (slices.standing read.reading before) (after_slice slice image before) (Ok tt) = range-samples p.coder_type slice (get_or contents n []) (slices.standing read.reading before) (after_slice slice image before) (Ok tt) known.coder (read.samples before) in (
+    let given : SamplesGive p.coder_type slice (get_or contents n []) (slices.standing read.reading before) (after_slice slice image before) (Ok tt) = read.samples before in (
       before,
       decodes p image contents n known (omega arith),
       (
@@ -192,10 +192,10 @@ whole numbers p image packet contents known is =
     }
 
 pub read_back : (numbers : AreNumbers) → IsReadBack
-read_back numbers p image packet coder sound picture suits written =
+read_back numbers p image packet sound picture suits written =
     let contents : List (List ℕ) = written.contents in
     let slices : List Slice = slices_of p.ec contents in
-    let known : Known p image contents = record { coder = coder; sound = sound; picture = picture; suits = suits; are = written.are; all = written.all } in
+    let known : Known p image contents = record { sound = sound; picture = picture; suits = suits; are = written.are; all = written.all } in
     let last : DecodesTo p image.shape slices (length contents) (picture_after p image (length contents)) = decodes p image contents (length contents) known (omega arith) in
     let all : DecodesTo p image.shape slices (length slices) (picture_after p image (length contents)) = subst (λ (n : ℕ). DecodesTo p image.shape slices n (picture_after p image (length contents))) (sym (length-map contents (slice_of p.ec))) last in
     let is : picture_after p image (length contents) ≡ image = ap (picture_after p image) written.all ∙ all_right p image sound picture suits in

@@ -18,6 +18,7 @@ use Rattle.ffv1_slice.specs.Reading.{coding, ReadsSample, ContextsFit}
 use Rattle.ffv1_slice.specs.Slice.{Part, Slice, decoding, standing, ReadsAreas, ReadsPart, ReadsSlice, fresh_contexts}
 use Rattle.ffv1_slice.specs.Writing.{Encoding, encoding, first_samples, samples_from, samples, WritesAreas, WritesPart, WritesSlice}
 use Rattle.ffv1_slice.proofs.InTurn.{fresh_kept}
+use Rattle.ffv1_golomb.specs.Law.{copied}
 use Rattle.ffv1_frame.proofs.Passages.{Passage, nothing_passed, read_as, both_passed}
 use Rattle.ffv1_frame.proofs.SamplesBack.{IsGood, AreSamples, rows_back, rows_are}
 
@@ -77,14 +78,9 @@ samples-plane image area sound is = record {
 }
 
 -- ---- areas
--- a picture with another one's samples in areas
-abbrev pub with_areas : Image → List Area → Image → Image
-with_areas image [] before = before
-with_areas image (area ∷ more) before = with_areas image more (with_rows before area (samples image area))
-
 -- Areas are read into whatever picture there was.
 abbrev pub ReadInto : List (List ℤ) → Image → List Area → List (List ℕ) → List (List ℕ) → Reading → Reading → Type 0
-ReadInto tables image areas old new p q = (before : Image) → ReadsAreas tables areas (decoding (coding p old) before) (decoding (coding q new) (with_areas image areas before))
+ReadInto tables image areas old new p q = (before : Image) → ReadsAreas tables areas (decoding (coding p old) before) (decoding (coding q new) (copied image areas before))
 
 areas_back : (table : List ℕ) (tables : List (List ℤ)) (count : ℕ) (image : Image) (areas : List Area) (old new : Encoding) → IsTransition table → ContextsFit tables count → IsPicture image → AllByRecursion (IsWithin image.shape) areas
     → IsGood table count old → WritesAreas tables image areas old new → Passage table old.writing new.writing (ReadInto tables image areas old.contexts new.contexts) × IsGood table count new
@@ -112,7 +108,7 @@ areas_back table tables count image (area ∷ more) old new sound fit picture wi
 
 -- ---- a part
 abbrev pub PartInto : Part → Image → Reading → Reading → Type 0
-PartInto part image p q = (before : Image) → ReadsPart part (standing p before) (standing q (with_areas image part.areas before))
+PartInto part image p q = (before : Image) → ReadsPart part (standing p before) (standing q (copied image part.areas before))
 
 -- The tables of a part have a set for each context, and its areas lie within the picture.
 pub record IsPart (shape : Layout) (part : Part) : Type 0 where
@@ -131,7 +127,7 @@ part_back table image part old new sound picture is at (contexts, written) =
 
 -- ---- a slice
 abbrev pub after_slice : Slice → Image → Image → Image
-after_slice slice image before = with_areas image slice.chroma.areas (with_areas image slice.luma.areas before)
+after_slice slice image before = copied image slice.chroma.areas (copied image slice.luma.areas before)
 
 abbrev pub SliceInto : Slice → Image → Reading → Reading → Type 0
 SliceInto slice image p q = (before : Image) → ReadsSlice slice (standing p before) (standing q (after_slice slice image before))
@@ -142,5 +138,5 @@ slice_back table image slice old new sound picture luma chroma at (mid, first, s
     let luma_back = part_back table image slice.luma old mid sound picture luma at first in
     let chroma_back = part_back table image slice.chroma mid new sound picture chroma luma_back.1 second in
     read_as table old new (λ p q. (reading : Reading) × PartInto slice.luma image p reading × PartInto slice.chroma image reading q) (SliceInto slice image)
-    (λ p q same (reading, one, other) before. (standing reading (with_areas image slice.luma.areas before), one before, other (with_areas image slice.luma.areas before)))
+    (λ p q same (reading, one, other) before. (standing reading (copied image slice.luma.areas before), one before, other (copied image slice.luma.areas before)))
     (both_passed table old mid new (PartInto slice.luma image) (PartInto slice.chroma image) luma_back.0 chroma_back.0)

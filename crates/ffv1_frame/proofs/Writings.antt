@@ -15,7 +15,8 @@ use Rattle.ffv1_slice.specs.Order.{InRow, InRows}
 use Rattle.ffv1_slice.specs.Slice.{Part, Slice, fresh_contexts}
 use Rattle.ffv1_slice.specs.Writing.{Encoding, encoding, with_difference, WritesSample, samples, WritesAreas, WritesPart, WritesSlice}
 use Rattle.ffv1_frame.specs.Packet.{bytes_of}
-use Rattle.ffv1_frame.specs.Written.{WritesContent, cell_slice, header_written, slice_of, IsPacket, IsTooLong, Writes, packet_of}
+use Rattle.ffv1_frame.specs.Written.{IsContent, WritesContent, cell_slice, header_written, slice_of, IsPacket, IsTooLong, Writes, packet_of}
+use Rattle.ffv1_frame.proofs.RiceWritings.{written_exists, one_written}
 use Rattle.ffv1_frame.proofs.Packets.{ArePut, none_put, one_put, all_put}
 
 -- the encoding after the sample at a column of a row
@@ -53,10 +54,14 @@ slice_exists s image old =
     let chroma = part_exists s.chroma image luma.0 in
     (chroma.0, (luma.0, luma.1, chroma.1))
 
-content_exists : (p : Parameters) (image : Image) (cell : ℕ) → (content : List ℕ) × WritesContent p image cell content
-content_exists p image cell =
-    let written = slice_exists (cell_slice p image.shape cell) image (header_written p cell) in
+content_exists_by : (coder : ℕ) (slice : Slice) (image : Image) (header : Writing) → (content : List ℕ) × IsContent coder slice image header content
+content_exists_by zero slice image header = written_exists slice image header
+content_exists_by (suc coder) slice image header =
+    let written = slice_exists slice image header in
     (part (with_sentinel written.0), record { writing = written.0; samples = written.1; ended = refl })
+
+content_exists : (p : Parameters) (image : Image) (cell : ℕ) → (content : List ℕ) × WritesContent p image cell content
+content_exists p image cell = content_exists_by p.coder_type (cell_slice p image.shape cell) image (header_written p cell)
 
 -- the slices of the first cells, unless one of them is too long
 first_exist : (p : Parameters) (image : Image) (cell : ℕ) → cell ≤ p.columns * p.rows → ((packet : List ℕ) × ArePut p image packet cell) ⊎ IsTooLong p image
@@ -106,11 +111,13 @@ one_slice : (s : Slice) (image : Image) (old new new' : Writing) → WritesSlice
 one_slice s image old new new' (mid, luma, chroma) (mid', luma', chroma') =
     one_part s.chroma image mid mid' new new' (one_part s.luma image old old mid mid' refl luma luma') chroma chroma'
 
+one_content_by : (coder : ℕ) (slice : Slice) (image : Image) (header : Writing) (content other : List ℕ) → IsContent coder slice image header content → IsContent coder slice image header other → content ≡ other
+one_content_by zero slice image header content other first second = one_written slice image header content other first second
+one_content_by (suc coder) slice image header content other first second =
+    first.ended ∙ ap (λ (w : Writing). part (with_sentinel w)) (one_slice slice image header first.writing second.writing first.samples second.samples) ∙ sym second.ended
+
 one_content : (p : Parameters) (image : Image) (cell : ℕ) (content other : List ℕ) → WritesContent p image cell content → WritesContent p image cell other → content ≡ other
-one_content p image cell content other first second =
-    first.ended
-    ∙ ap (λ (w : Writing). part (with_sentinel w)) (one_slice (cell_slice p image.shape cell) image (header_written p cell) first.writing second.writing first.samples second.samples)
-    ∙ sym second.ended
+one_content p image cell content other first second = one_content_by p.coder_type (cell_slice p image.shape cell) image (header_written p cell) content other first second
 
 one_packet : (p : Parameters) (image : Image) (packet other : List ℕ) → IsPacket p image packet → IsPacket p image other → packet ≡ other
 one_packet p image packet other first second =

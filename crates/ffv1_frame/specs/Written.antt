@@ -1,5 +1,5 @@
 -- What a picture is written as: a packet with one slice for each cell of the grid, row by row. RFC 9043 sections 4.4 to 4.9.
-use Rattle.std.specs.Prelude.{◌≡◌, ◌≢◌, ⊤, ℕ, ◌*◌, ◌/◌, ◌%◌, ◌<◌, ◌≤◌, Bool, true, false, ◌==◌, List, [], ◌∷◌, ◌++◌, length, slice_index_or, All, Option, Some, None, Result, Ok, Err}
+use Rattle.std.specs.Prelude.{◌≡◌, ⊤, ℕ, zero, suc, ◌*◌, ◌/◌, ◌%◌, ◌<◌, ◌≤◌, Bool, true, false, ◌==◌, List, [], ◌∷◌, ◌++◌, length, slice_index_or, All, Option, Some, None, Result, Ok, Err}
 use Rattle.std.specs.List.{flat_map}
 use Rattle.std.specs.Global.{Vec}
 use Rattle.byteorder.specs.Endian.{big_bytes}
@@ -17,6 +17,7 @@ use Rattle.ffv1_slice.specs.Header.{with_header}
 use Rattle.ffv1_slice.specs.Cells.{areas_of}
 use Rattle.ffv1_slice.specs.Slice as slices
 use Rattle.ffv1_slice.specs.Writing.{WritesSlice}
+use Rattle.ffv1_golomb.specs.Writing as rice
 use Rattle.ffv1_frame.specs.Packet.{Slice, bytes_of}
 use Rattle.ffv1_frame.specs.Frame.{Gives, grid_of, slice_by}
 
@@ -39,10 +40,25 @@ abbrev pub cell_slice : Parameters → Layout → ℕ → slices.Slice
 cell_slice p shape cell = slice_by p (cell_header p.columns cell) (areas_of (grid_of p) shape (cell_header p.columns cell))
 
 -- The content of a range-coded slice: the samples stand behind the header, and Sentinel mode ends them. RFC 9043 section 3.8.1.1.1.
-pub record WritesContent (p : Parameters) (image : Image) (cell : ℕ) (content : List ℕ) : Type 0 where
+pub record IsRangeContent (slice : slices.Slice) (image : Image) (header : Writing) (content : List ℕ) : Type 0 where
   pub writing : Writing
-  pub samples : WritesSlice (cell_slice p image.shape cell) image (header_written p cell) writing
+  pub samples : WritesSlice slice image header writing
   pub ended : content ≡ part (with_sentinel writing)
+
+-- The content of a slice in Golomb-Rice mode: the bits of the samples stand behind the range-coded header. RFC 9043 section 3.8.2.
+pub record IsRiceContent (slice : slices.Slice) (image : Image) (header : Writing) (content : List ℕ) : Type 0 where
+  pub bits : List ℕ
+  pub samples : rice.WritesSlice slice image [] bits
+  pub joined : content ≡ rice.content_of header bits
+
+-- the same by the coder type: 0 is Golomb-Rice mode, and the others are the range coder. RFC 9043 section 4.2.3.
+abbrev pub IsContent : ℕ → slices.Slice → Image → Writing → List ℕ → Type 0
+IsContent zero slice image header content = IsRiceContent slice image header content
+IsContent (suc coder) slice image header content = IsRangeContent slice image header content
+
+-- The content of the slice of a cell.
+abbrev pub WritesContent : Parameters → Image → ℕ → List ℕ → Type 0
+WritesContent p image cell content = IsContent p.coder_type (cell_slice p image.shape cell) image (header_written p cell) content
 
 -- ---- the slices
 -- slice_size, and with error correction error_status 0 and the parity of the slice's bytes before it. RFC 9043 section 4.9.
@@ -98,5 +114,5 @@ Encodes p image (Err NoMemory) = ⊤
 -- The packet that a picture is written as decodes to the picture.
 abbrev pub IsReadBack : Type 0
 IsReadBack =
-    (p : Parameters) (image : Image) (packet : List ℕ) → p.coder_type ≢ 0 → IsRecord p → IsPicture image → Suits p image.shape → Writes p image (Some packet)
+    (p : Parameters) (image : Image) (packet : List ℕ) → IsRecord p → IsPicture image → Suits p image.shape → Writes p image (Some packet)
     → Gives p image.shape packet (Ok image)

@@ -7,6 +7,8 @@ mod decode;
 mod decode_range;
 mod decode_rice;
 mod encode;
+mod encode_range;
+mod encode_rice;
 mod fault;
 mod frame;
 mod law;

@@ -33,6 +33,15 @@ fn context_count(record: &Record, set: u32) -> usize
     record.table_sets()[set as usize].context_count() as usize
 }
 
+/// How many contexts the tables of the first set give.
+pub(crate) fn first_contexts(record: &Record) -> usize
+    ensures count { result ≡ context_count_of record.now 0 }
+    ensures few { result ≤ 2 ^ 16 }
+{
+    record.lawful();
+    context_count(record, 0)
+}
+
 /// The most contexts that the tables of a set give.
 pub(crate) fn most_contexts(record: &Record) -> usize
     ensures { (set : ℕ) → set < length record.now.sets → context_count_of record.now set ≤ result }

@@ -2,7 +2,7 @@ use Rattle.std.proofs.Common.{subst}
 use Rattle.pic_planes.specs.Shape.{Layout}
 use Rattle.ffv1_slice.specs.Slice.{CanHold}
 use Rattle.std.proofs.Common.{◌≤◌, arith, ap}
-use Rattle.ffv1_frame.proofs.encode.content_of.Goals as goal
+use Rattle.ffv1_frame.proofs.encode_range.range_content.Goals as goal
 
 pub encode_slice-requires-clause-areas : goal.encode_slice-requires-clause-areas
 encode_slice-requires-clause-areas c =
