@@ -9,7 +9,8 @@ use Rattle.ffv1_range.specs.Symbol.{with_states, set_after}
 use Rattle.ffv1_range.specs.Law.{written}
 use Rattle.ffv1_record.specs.Reading.{fresh}
 use Rattle.ffv1_record.specs.Tables.{set_of, AreSets}
-use Rattle.ffv1_record.specs.Parameters.{Parameters, parameters_of, runs_of, IsGrid, IsTableFor, IsRecord}
+use Rattle.pic_planes.specs.Grid.{IsGrid}
+use Rattle.ffv1_record.specs.Parameters.{Parameters, parameters_of, runs_of, IsTableFor, IsRecord}
 use Rattle.ffv1_record.specs.Spelling.{runs, coding, planes, grid, ending, before_tables, after_tables, coded_tables, coded_sets, coded, with_parity, record_bytes}
 use Rattle.ffv1_record.specs.Sink.{Sink, sink, wrote, wrote_table, wrote_tables, wrote_sets}
 use Rattle.ffv1_record.proofs.Sinks.{put_all-table, put_all-append, in_turn_3}

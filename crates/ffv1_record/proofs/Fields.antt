@@ -14,7 +14,7 @@ use Rattle.ffv1_range.specs.Symbol.{Source, source, after_place, with_states}
 use Rattle.ffv1_record.specs.declared.fault.RecordFault.TheVariants as faults
 use Rattle.ffv1_record.specs.Reading.{fresh, coder_at, bits_at, chroma_of, chroma_at, grid_at, runs_at, table_at, tables_at, sets_at, states_at, ec_at}
 use Rattle.ffv1_record.specs.Tables.{AreRuns, AreSetRuns, ScalesFit, next_scale}
-use Rattle.ffv1_record.specs.Parameters.{IsGrid}
+use Rattle.pic_planes.specs.Grid.{IsGrid}
 use Rattle.ffv1_record.specs.Spelling.{number, flag, chroma, coding, planes, grid, flags, runs, transition, coded_tables, coded_sets}
 use Rattle.ffv1_record.proofs.Again.{Laws, Rest, Stands, Ahead, Again, number_again, only_again, flag_again}
 

@@ -16,7 +16,8 @@ use Rattle.ffv1_range.specs.Symbol.{Source, source, spelling, magnitude_bits, on
 use Rattle.ffv1_range.specs.Law.{written, ReadsClosedMode}
 use Rattle.ffv1_record.specs.Reading.{fresh, fields_at, all_sets_at, parameters, has_parity}
 use Rattle.ffv1_record.specs.Tables.{AreSetRuns, AreSets, set_of}
-use Rattle.ffv1_record.specs.Parameters.{Parameters, parameters_of, runs_of, IsGrid, IsTableFor, IsRecord}
+use Rattle.pic_planes.specs.Grid.{IsGrid}
+use Rattle.ffv1_record.specs.Parameters.{Parameters, parameters_of, runs_of, IsTableFor, IsRecord}
 use Rattle.ffv1_record.specs.Spelling.{number, coding, planes, grid, ending, flags, transition, before_tables, after_tables, coded_sets, coded, with_parity, record_bytes}
 use Rattle.ffv1_record.proofs.Sinks.{put_all-append, with_states-append}
 use Rattle.ffv1_record.proofs.Bytes.{runs_of-sets}

@@ -1,8 +1,8 @@
 -- The fields of a configuration record. RFC 9043 section 4.2.
-use Rattle.std.specs.Prelude.{◌≡◌, ℕ, ◌*◌, ◌^◌, ◌<◌, ◌≤◌, Bool, List, [], drop, map, slice_index, slice_index_or, All, ℤ}
-use Rattle.tl_limits.specs.Limits.{max_slices}
+use Rattle.std.specs.Prelude.{◌≡◌, ℕ, ◌^◌, ◌<◌, ◌≤◌, Bool, List, [], drop, map, slice_index, slice_index_or, All, ℤ}
 use Rattle.pic_planes.specs.declared.shape.Chroma.{Chroma}
 use Rattle.pic_planes.specs.Shape.{AreShifts}
+pub use Rattle.pic_planes.specs.Grid.{IsGrid}
 use Rattle.ffv1_range.specs.declared.transition.TheConstants.{DEFAULT_TRANSITION}
 use Rattle.ffv1_range.specs.Transition.{IsTransition}
 use Rattle.ffv1_record.specs.Tables.{TableSet, set_of, AreSets}
@@ -35,12 +35,6 @@ tables_of p set = slice_index_or (map (λ s. s.tables) p.sets) set []
 
 abbrev pub context_count_of : Parameters → ℕ → ℕ
 context_count_of p set = slice_index (map (λ s. s.context_count) p.sets) set
-
--- the grid of slices
-pub record IsGrid (columns rows : ℕ) : Type 0 where
-  pub some_columns : 1 ≤ columns
-  pub some_rows : 1 ≤ rows
-  pub few : columns * rows ≤ max_slices
 
 -- the table of the states after a bit 1, for this coder type
 pub record IsTableFor (coder_type : ℕ) (transition : List ℕ) : Type 0 where

@@ -2,8 +2,8 @@
 ghost use Rattle.std.specs.Prelude.{◌≡◌, ◌≤◌, List, ℕ, [], ◌∷◌, map, true, IfOk};
 ghost use Rattle.pic_planes.specs.Shape.{Layout};
 ghost use Rattle.ffv1_record.specs.Default.{coder_type_of, fine_runs, one_run, default_runs, default_parameters};
-ghost use Rattle.ffv1_record.specs.Parameters.{IsGrid};
-ghost use Rattle.ffv1_record.specs.Suits.{Suits, ReachesEnds};
+ghost use Rattle.pic_planes.specs.Grid.{IsGrid, ReachesEnds};
+ghost use Rattle.ffv1_record.specs.Suits.{Suits};
 
 use crate::record::{Coder, Record};
 use crate::tables::{Runs, TableSet};

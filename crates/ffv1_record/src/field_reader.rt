@@ -4,7 +4,7 @@ ghost use Rattle.std.specs.List.{AllByRecursion};
 ghost use Rattle.ffv1_range.specs.Reading.{opened};
 ghost use Rattle.ffv1_range.specs.Symbol.{Source, source, bit_at_place, after_place};
 ghost use Rattle.ffv1_record.specs.Reading.{Gives, Leaves, chroma_of, ec_at, fresh, signed_at, number_at, only_at, coder_at, entry_at, entries_at, bits_at, chroma_at, grid_at};
-ghost use Rattle.ffv1_record.specs.Parameters.{IsGrid};
+ghost use Rattle.pic_planes.specs.Grid.{IsGrid};
 ghost use Rattle.pic_planes.specs.Shape.{AreShifts};
 
 use crate::fault::RecordFault;

@@ -3,10 +3,11 @@ ghost use Rattle.std.specs.Prelude.{◌≡◌, ℕ, ◌≤◌, ◌<◌, ◌+◌,
 ghost use Rattle.ffv1_record.specs.Reading.{Gives, fields_at, parameters};
 ghost use Rattle.tl_limits.specs.Limits.{IsSide, max_side, max_slices};
 ghost use Rattle.pic_planes.specs.Shape.{AreShifts, IsShape, layout};
-ghost use Rattle.ffv1_record.specs.Parameters.{IsGrid, IsRecord, parameters_of, tables_of, context_count_of};
+ghost use Rattle.pic_planes.specs.Grid.{IsGrid};
+ghost use Rattle.ffv1_record.specs.Parameters.{IsRecord, parameters_of, tables_of, context_count_of};
 ghost use Rattle.ffv1_record.specs.Tables.{AreSets, AreContexts, set_of};
 ghost use Rattle.ffv1_record.specs.Default.{coder_type_of};
-ghost use Rattle.ffv1_record.specs.Suits.{Suits, ReachesEnd, ReachesEnds};
+ghost use Rattle.ffv1_record.specs.Suits.{Suits};
 ghost use Rattle.ffv1_record.specs.Spelling.{record_bytes, with_parity};
 
 use crate::entries::Tables;
@@ -16,7 +17,7 @@ use crate::field_writer::FieldWriter;
 use crate::law::record_reads_back;
 use crate::tables::TableSet;
 use ffv1_range::{DEFAULT_TRANSITION, Transition};
-use pic_planes::{Chroma, Shape, shifted_down, shifted_up};
+use pic_planes::{Chroma, Shape, reaches_ends};
 use std::alloc::{AllocError, Global};
 use std::marker::Model;
 use tl_base::{big_u32, parity, put_big_u32};
@@ -47,7 +48,8 @@ pub struct Record {
 impl Model for Record {
     ghost use Rattle.std.specs.Prelude.{ℕ};
     ghost use Rattle.pic_planes.specs.Shape.{AreShifts};
-    ghost use Rattle.ffv1_record.specs.Parameters.{Parameters, parameters_of, IsTableFor, IsGrid};
+    ghost use Rattle.ffv1_record.specs.Parameters.{Parameters, parameters_of, IsTableFor};
+    ghost use Rattle.pic_planes.specs.Grid.{IsGrid};
     ghost use Rattle.ffv1_record.specs.Tables.{AreSets};
 
     ghost Value = { Parameters };
@@ -284,31 +286,6 @@ pub(crate) fn put_parity(bytes: &mut Vec<u8>) -> Result<(), AllocError>
     put_big_u32(&mut last, parity(bytes.as_slice()));
     bytes.extend_from_slice(&last)?;
     Ok(())
-}
-
-// Whether the last column and row of slices reach the ends of the chroma planes.
-fn reaches_ends(chroma: Chroma, columns: u32, rows: u32, width: u32, height: u32) -> bool
-    requires chroma { AreShifts chroma }
-    requires grid { IsGrid columns rows }
-    requires width { IsSide width }
-    requires height { IsSide height }
-    ensures { IsTrue result ↔ ReachesEnds columns rows width height chroma }
-{
-    match chroma {
-        Chroma::Grey => true,
-        Chroma::Shifts { h, v } => reaches_end(columns, width, h) && reaches_end(rows, height, v),
-    }
-}
-
-fn reaches_end(cells: u32, size: u32, shift: u8) -> bool
-    requires cells { 1 ≤ cells }
-    requires few { cells ≤ max_slices }
-    requires size { size ≤ max_side }
-    requires shift { shift ≤ 2 }
-    ensures { IsTrue result ↔ ReachesEnd cells size shift }
-{
-    let start = (cells - 1) * size / cells;
-    shifted_down(start, shift) + shifted_up(size - start, shift) == shifted_up(size, shift)
 }
 
 fn coder_type_of(coder: Coder) -> u8

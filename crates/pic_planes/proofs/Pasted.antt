@@ -1,6 +1,6 @@
 -- A list with others written over some of its elements.
-use Rattle.std.proofs.Common.{◌≡◌, ℕ, zero, suc, ◌+◌, ◌-◌, ◌≤◌, List, [], ◌∷◌, ◌++◌, length, take, drop, refl, sym, ◌∙◌, ap, arith, length-append, length-drop, append_assoc}
-use Rattle.std.proofs.lemmas.List.{length-take-le, take-append-drop, take_at, drop_at, drop-drop, take-append-le, drop-append-le, take-take, drop-take}
+use Rattle.std.proofs.Common.{◌≡◌, ℕ, ◌+◌, ◌-◌, ◌≤◌, List, ◌++◌, length, take, drop, refl, sym, ◌∙◌, ap, arith, length-append, length-drop}
+use Rattle.std.proofs.lemmas.List.{length-take-le, take_at, drop_at, drop-drop, take-append-le, drop-append-le, take-take, drop-take}
 use Rattle.pic_planes.specs.Bytes.{pasted}
 
 pub length-pasted : (b : List ℕ) (i : ℕ) (ws : List ℕ) → i + length ws ≤ length b → length (pasted b i ws) ≡ length b

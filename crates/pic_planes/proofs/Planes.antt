@@ -1,15 +1,15 @@
 -- The planes that lie in bytes: a row of them, and bytes with another row.
 use Rattle.std.proofs.Common.{◌≡◌, ℕ, zero, suc, ◌+◌, ◌-◌, ◌*◌, ◌<◌, ◌≤◌, List, [], ◌∷◌, ◌++◌, length, take, drop, set, get_or, replicate, refl, sym, ◌∙◌, ap, arith, length-drop, append_assoc, subst, inl, inr, eqb}
 use Rattle.std.specs.List.{concat, flat_map}
-use Rattle.std.proofs.lemmas.List.{drop-drop, take-append-drop, length-take-le, take_at, drop_at, replicate-append-replicate, length-replicate, take_all, get_or-take, get_or-drop, get_or_past, length-take, append-nil, length-append}
+use Rattle.std.proofs.lemmas.List.{drop-drop, length-take-le, take_at, drop_at, replicate-append-replicate, length-replicate, take_all, get_or-take, get_or-drop, get_or_past, length-take, append-nil, length-append}
 use Rattle.std.proofs.lemmas.Bool.{cases_Bool, eqb-true, eq-eqb, cases_lt}
 use Rattle.std.proofs.Math.Nat.{mul-le-mul_right}
 use Rattle.std.proofs.Math.Seq.{take-add}
 use Rattle.pic_planes.specs.declared.shape.Chroma.{Chroma}
 use Rattle.pic_planes.specs.declared.shape.Chroma.TheVariants.{Grey, Shifts}
 use Rattle.pic_planes.specs.Shape.{Layout, layout, IsShape, plane_count, plane_width, plane_height}
-use Rattle.pic_planes.specs.Picture.{Image, plane_of, row_of, with_row, filled, filled_planes, IsRow, IsPlane, IsPicture}
-use Rattle.pic_planes.specs.Bytes.{Size, size, sizes, sample_count, rows_in, planes_in, image_in, row_start, pasted, refilled, chroma_area, values_of}
+use Rattle.pic_planes.specs.Picture.{Image, plane_of, row_of, with_row, filled, filled_planes, IsRow, IsPicture}
+use Rattle.pic_planes.specs.Bytes.{Size, size, sizes, sample_count, rows_in, planes_in, image_in, row_start, pasted, chroma_area, values_of}
 use Rattle.pic_planes.specs.Lending.{with_written}
 use Rattle.pic_planes.proofs.Pasted.{length-pasted, take-pasted, drop-pasted, take-pasted_here, drop-pasted_behind}
 

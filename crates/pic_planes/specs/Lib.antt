@@ -1,4 +1,5 @@
 pub mod Shape
+pub mod Grid
 pub mod Picture
 pub mod Bytes
 pub mod Lending

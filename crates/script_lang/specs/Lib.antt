@@ -5,3 +5,9 @@ pub mod Parsed
 pub mod Sound
 pub mod Writing
 pub mod Shape
+pub mod Fields
+pub mod Calls
+pub mod Header
+pub mod ScriptText
+pub mod ScriptSound
+pub mod State

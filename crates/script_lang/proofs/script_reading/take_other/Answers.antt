@@ -1,0 +1,16 @@
+use Rattle.std.proofs.Common.{◌≡◌, ◌∙◌, ap, sym, refl, map, List, [], ◌∷◌, ◌++◌}
+use Rattle.script_lang.specs.declared.script.BodyLine.{BodyLine}
+use Rattle.script_lang.specs.declared.script.Call.{Call}
+use Rattle.script_lang.specs.declared.script.Call.TheVariants as call
+use Rattle.script_lang.specs.declared.script.ClipLine.{ClipLine}
+use Rattle.script_lang.specs.State.{has_word, begun, clip_line}
+use Rattle.script_lang.proofs.Taking.{took_other, took_edl, took_export, took_clip, took_format, took_rate, begun_body, begun_clip}
+use Rattle.script_lang.proofs.script_reading.take_other.Goals as goal
+
+pub returns : goal.returns
+returns c =
+    let s = c.args.state.now in
+    took_other s _ c.args.n c.args.first.now (map (λ word. word.now) c.args.rest.now) c.in_ok-call.call c.requires.keeps c.requires.formatted (record { rate = refl; format = refl; names = λ w. refl })
+    (λ w. refl) (λ w. refl)
+    (begun_body (begun s) c.put_call.new.body.items (s.body.items ++ record { n = c.args.n; call = c.in_ok-call.call } ∷ []) c.in_ok-put_call.ensures)
+    c.in_ok-call.ensures
