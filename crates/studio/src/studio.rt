@@ -11,6 +11,8 @@ ghost use Rattle.studio.specs.Tries.{Tries};
 
 mod edits;
 mod exports;
+#[cfg(test)]
+mod tests;
 mod work;
 
 use crate::call::Call;
