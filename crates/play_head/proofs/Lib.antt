@@ -1,3 +1,6 @@
 pub mod Rolls
 pub mod Desks
 pub mod Turning
+pub mod Pieces
+pub mod Rows
+pub mod Speaking

@@ -4,3 +4,6 @@ pub mod Heard
 pub mod Stop
 pub mod Work
 pub mod Working
+pub mod Putting
+pub mod Told
+pub mod Saying

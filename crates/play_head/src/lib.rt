@@ -1,11 +1,15 @@
 //! Playing a script as one caller of an editing core, over any desk.
 //!
-//! `roll` has the calls that play a range of frames, `work` the turns of work that a caller does itself, `stop` what stops
-//! a script before its end.
+//! `roll` has the calls that play a range of frames, `work` the turns of work that a caller does itself, `calls` the calls that
+//! ask the desk one thing, each with its line, `told` the line of each reply, `say` the putting of lines and pictures, and
+//! `stop` what stops a script before its end.
 #![tactic(auto)]
 
+mod calls;
 mod roll;
+mod say;
 mod stop;
+mod told;
 mod work;
 
 pub use roll::Roll;
