@@ -45,7 +45,8 @@ pub record WritesArea (tables : List (List ℤ)) (image : Image) (area : Area) (
 -- The samples of a part are written. The states of its contexts are fresh, and serve no more after it.
 abbrev pub WritesPart : Image → Part → List ℕ → List ℕ → Type 0
 WritesPart image p old new =
-    (states : List State) × InTurn (WritesArea p.tables image) p.areas (encoding (replicate p.context_count fresh) old) (encoding states new)
+    (states : List State)
+    × InTurn (WritesArea p.tables image) p.areas (encoding (replicate p.context_count fresh) old) (encoding states new)
 
 abbrev pub WritesSlice : Slice → Image → List ℕ → List ℕ → Type 0
 WritesSlice s image old new = InTurn (WritesPart image) (parts s) old new

@@ -82,7 +82,8 @@ fn read_sample(
     requires zeros { zeros ≤ left }
     requires in_run { 0 < zeros → IsInRun run.old.mode }
     ensures ok { IfOk result (λ seen. ReadsSample tables.now near seen.sample
-        (line left (coding_ahead zeros run.old states.old bits.old)) (line (left - 1) (coding_ahead seen.zeros run.new states.new bits.new))) }
+        (line left (coding_ahead zeros run.old states.old bits.old))
+        (line (left - 1) (coding_ahead seen.zeros run.new states.new bits.new))) }
     ensures out_of_range { OnErr result (sample_at left (nat_abs (context tables.now near))
         (coding_ahead zeros run.old states.old bits.old) ≡ None) }
     ensures in_run { IfOk result (λ seen. 0 < seen.zeros → IsInRun run.new.mode) }
