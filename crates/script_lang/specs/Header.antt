@@ -95,7 +95,8 @@ sized_format size grid chroma coder = do
 
 -- a format of its own: width, height, chroma, coder, columns and rows
 unfoldable pub own_format : Words → Result FormatLine ScriptFault
-own_format (width ∷ height ∷ chroma ∷ coder ∷ columns ∷ rows ∷ []) = sized_format (pair_of 0 width height) (pair_of 0 columns rows) chroma coder
+own_format (width ∷ height ∷ chroma ∷ coder ∷ columns ∷ rows ∷ []) =
+    sized_format (pair_of 0 width height) (pair_of 0 columns rows) chroma coder
 own_format other = Err faults.Count
 
 -- the format of a clip by its name

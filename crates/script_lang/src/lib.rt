@@ -1,7 +1,7 @@
 //! The language of the editor: scripts, and the lines that a session answers, both read and written.
 //!
-//! A script's line goes by its first word: `header.rt` reads the words of the header's lines, `calls.rt` those of the body's, `state.rt` keeps
-//! what stands before a line, and `script_reading.rt` tests each line's faults in their order.
+//! A script's line goes by its first word: `header.rt` reads the words of the header's lines, `calls.rt` those of the body's, `state.rt`
+//! keeps what stands before a line, and `script_reading.rt` tests each line's faults in their order.
 #![tactic(auto)]
 
 mod calls;

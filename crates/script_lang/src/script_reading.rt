@@ -1,17 +1,14 @@
 //! Reading a script.
 
 ghost use Rattle.std.specs.Prelude.{◌≡◌, ◌||◌, true, false, is_some, is_none, length, ◌++◌, ◌∷◌, [], Ok, ◌≤◌, ◌<◌, map, IfOk, OnOk, codes};
-ghost use Rattle.std.specs.List.{list_any};
 ghost use Rattle.std.specs.Str.{bytes_eq};
 ghost use Rattle.std.specs.Str.Lines.{lines};
 ghost use Rattle.tl_limits.specs.Limits.{IsRate, max_lines, max_clips, timecode_frames};
-ghost use Rattle.script_lang.specs.Line.{is_one_of};
-ghost use Rattle.script_lang.specs.Calls.{call_names};
 ghost use Rattle.script_lang.specs.ScriptText.{names, with_rate, header_rate, with_clip_line, with_clip, with_format, with_body, with_edl, with_export, with_other, with_known, with_call, with_words, has_room, with_split, is_comment, with_line, ended, at_line, script_from, script};
 ghost use Rattle.script_lang.specs.ScriptSound.{IsScript};
 ghost use Rattle.script_lang.specs.State.{has_word, begun, clip_line, Keeps, Took, Takes, Gives};
 
-use crate::calls::call_of;
+use crate::calls::{call_of, is_call_name};
 use crate::fields::{LineRefusal, copy_of, one_name};
 use crate::header::{ClipWords, clip_of, format_of, rate_of};
 use crate::script::{
@@ -21,25 +18,6 @@ use crate::state::{State, empty_state, has_word, put_word};
 use std::alloc::{AllocError, AllocFailed, Global};
 use text_words::{Blanks, is_text, next_line, words};
 use tl_limits::{MAX_CLIPS, MAX_LINES};
-
-/// The first word of each line of a body.
-#[rattlefmt::skip]
-const CALL_NAMES: [&str; 20] = [
-    "insert", "overwrite", "extract", "lift", "split", "trimin", "trimout", "slip", "dissolve", "relink", "edl", "undo", "redo",
-    "want", "cancel", "play", "show", "roll", "work", "export",
-];
-
-fn is_one_of(words: &[&str], word: &[u8]) -> bool
-    ensures { result ≡ list_any (λ other. bytes_eq other.now word.now) words.now }
-{
-    words.iter().any(|other| other.as_bytes() == word)
-}
-
-fn is_call_name(word: &[u8]) -> bool
-    ensures { result ≡ is_one_of call_names word.now }
-{
-    is_one_of(&CALL_NAMES, word)
-}
 
 #[tactic(auto, unfolding(crate::specs::ScriptText::with_rate))]
 fn take_rate(state: &mut State<'_>, rest: &[&[u8]]) -> Result<(), LineRefusal>
