@@ -1,7 +1,7 @@
 //! The editing core behind a turn: one journal of the calls of many threads. Each caller has a pass, which knows what its
-//! caller has seen of the journal. `studio` makes, splits, joins and ends passes, and has the calls that wait for the turn;
-//! `tries` has those that don't wait. `call` is what each call does with the board, `shared` the board behind the turn, and
-//! `at_pass` a desk over a pass.
+//! caller has seen of the journal. `studio` makes, splits, joins and ends passes; its `edits`, `work` and `exports` have each
+//! call, which waits for the turn, and its try, which doesn't (`tries`). `call` says what a call is, `calls` what each does
+//! with the board, `shared` is the board behind the turn, and `at_pass` a desk over a pass.
 #![tactic(auto)]
 
 mod at_pass;

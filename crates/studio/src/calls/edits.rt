@@ -138,7 +138,8 @@ impl<M: Media, L: Lane> Call<M, L> for WantCall {
 
     ghost lasts = { λ call old new learns known asks. tt };
 
-    ghost later = { λ call old mid new. answers_later M.library old mid new (record { act = act.Want call.first call.len; view = of_want }) };
+    ghost later = { λ call old mid new. answers_later M.library old mid new
+        (record { act = act.Want call.first call.len; view = of_want }) };
 }
 
 /// Cancels the wanted ones of a range of frames.
@@ -172,7 +173,8 @@ impl<M: Media, L: Lane> Call<M, L> for CancelCall {
 
     ghost lasts = { λ call old new learns known asks. tt };
 
-    ghost later = { λ call old mid new. answers_later M.library old mid new (record { act = act.Cancel call.first call.len; view = of_cancel }) };
+    ghost later = { λ call old mid new. answers_later M.library old mid new
+        (record { act = act.Cancel call.first call.len; view = of_cancel }) };
 }
 
 /// Notes a number of turns of work.

@@ -43,7 +43,8 @@ impl<M: Media + Drop, L: Lane> Studio<M, L> {
     ) -> Try<Result<EditReply, Full>, ()>
         requires knows { Knows M.library self.now pass.old }
         requires edit { IsEdit edit.now }
-        ensures told { Tries pass.old pass.new tt result (λ answer. Answers M.library (desk_at self.now pass.old) (desk_at self.now pass.new)
+        ensures told { Tries pass.old pass.new tt result (λ answer.
+            Answers M.library (desk_at self.now pass.old) (desk_at self.now pass.new)
             (record { act = act.Edit edit.now; view = of_edit }) answer) }
         ensures knows { Knows M.library self.now pass.new }
     {
@@ -68,7 +69,8 @@ impl<M: Media + Drop, L: Lane> Studio<M, L> {
     /// As `undo`, if the turn is free.
     pub fn try_undo(&self, alloc: Global, pass: &mut Pass<M, L>) -> Try<Result<EditReply, Full>, ()>
         requires knows { Knows M.library self.now pass.old }
-        ensures told { Tries pass.old pass.new tt result (λ answer. Answers M.library (desk_at self.now pass.old) (desk_at self.now pass.new)
+        ensures told { Tries pass.old pass.new tt result (λ answer.
+            Answers M.library (desk_at self.now pass.old) (desk_at self.now pass.new)
             (record { act = act.Undo; view = of_edit }) answer) }
         ensures knows { Knows M.library self.now pass.new }
     {
@@ -93,7 +95,8 @@ impl<M: Media + Drop, L: Lane> Studio<M, L> {
     /// As `redo`, if the turn is free.
     pub fn try_redo(&self, alloc: Global, pass: &mut Pass<M, L>) -> Try<Result<EditReply, Full>, ()>
         requires knows { Knows M.library self.now pass.old }
-        ensures told { Tries pass.old pass.new tt result (λ answer. Answers M.library (desk_at self.now pass.old) (desk_at self.now pass.new)
+        ensures told { Tries pass.old pass.new tt result (λ answer.
+            Answers M.library (desk_at self.now pass.old) (desk_at self.now pass.new)
             (record { act = act.Redo; view = of_edit }) answer) }
         ensures knows { Knows M.library self.now pass.new }
     {
@@ -124,7 +127,8 @@ impl<M: Media + Drop, L: Lane> Studio<M, L> {
         len: u32,
     ) -> Try<Result<WantReply, Full>, ()>
         requires knows { Knows M.library self.now pass.old }
-        ensures told { Tries pass.old pass.new tt result (λ answer. Answers M.library (desk_at self.now pass.old) (desk_at self.now pass.new)
+        ensures told { Tries pass.old pass.new tt result (λ answer.
+            Answers M.library (desk_at self.now pass.old) (desk_at self.now pass.new)
             (record { act = act.Want first len; view = of_want }) answer) }
         ensures knows { Knows M.library self.now pass.new }
     {
@@ -155,7 +159,8 @@ impl<M: Media + Drop, L: Lane> Studio<M, L> {
         len: u32,
     ) -> Try<Result<CancelReply, Full>, ()>
         requires knows { Knows M.library self.now pass.old }
-        ensures told { Tries pass.old pass.new tt result (λ answer. Answers M.library (desk_at self.now pass.old) (desk_at self.now pass.new)
+        ensures told { Tries pass.old pass.new tt result (λ answer.
+            Answers M.library (desk_at self.now pass.old) (desk_at self.now pass.new)
             (record { act = act.Cancel first len; view = of_cancel }) answer) }
         ensures knows { Knows M.library self.now pass.new }
     {
@@ -175,7 +180,8 @@ impl<M: Media + Drop, L: Lane> Studio<M, L> {
     /// As `mark`, if the turn is free.
     pub fn try_mark(&self, pass: &mut Pass<M, L>, turns: u32) -> Try<Result<(), Full>, ()>
         requires knows { Knows M.library self.now pass.old }
-        ensures told { Tries pass.old pass.new tt result (λ answer. Answers M.library (desk_at self.now pass.old) (desk_at self.now pass.new)
+        ensures told { Tries pass.old pass.new tt result (λ answer.
+            Answers M.library (desk_at self.now pass.old) (desk_at self.now pass.new)
             (record { act = act.Mark turns; view = of_done }) answer) }
         ensures knows { Knows M.library self.now pass.new }
     {
@@ -195,7 +201,8 @@ impl<M: Media + Drop, L: Lane> Studio<M, L> {
     /// As `skip`, if the turn is free.
     pub fn try_skip(&self, pass: &mut Pass<M, L>) -> Try<Result<(), Full>, ()>
         requires knows { Knows M.library self.now pass.old }
-        ensures told { Tries pass.old pass.new tt result (λ answer. Answers M.library (desk_at self.now pass.old) (desk_at self.now pass.new)
+        ensures told { Tries pass.old pass.new tt result (λ answer.
+            Answers M.library (desk_at self.now pass.old) (desk_at self.now pass.new)
             (record { act = act.Skip; view = of_done }) answer) }
         ensures knows { Knows M.library self.now pass.new }
     {

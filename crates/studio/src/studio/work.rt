@@ -166,7 +166,8 @@ impl<M: Media + Drop, L: Lane> Studio<M, L> {
         n: u32,
     ) -> Try<Result<ShowReply<M::Frame>, Full>, ()>
         requires knows { Knows M.library self.now pass.old }
-        ensures told { Tries pass.old pass.new tt result (λ answer. Shows M.library (desk_at self.now pass.old) (desk_at self.now pass.new) n answer) }
+        ensures told { Tries pass.old pass.new tt result (λ answer.
+            Shows M.library (desk_at self.now pass.old) (desk_at self.now pass.new) n answer) }
         ensures knows { Knows M.library self.now pass.new }
     {
         match self.try_enter(pass, ShowCall { n }) {
