@@ -5,3 +5,4 @@ pub mod Apply
 pub mod Pieces
 pub mod Changes
 pub mod Found
+pub mod Twenties
