@@ -98,13 +98,8 @@ fn encoded(
     if !record.suits(picture.shape()) {
         return Ok(None);
     }
-    match record.coder() {
-        Coder::Rice => Ok(None),
-        Coder::Range => {
-            let packet = encode_frame(alloc, record, picture)?;
-            Ok(Some(packet))
-        }
-    }
+    let packet = encode_frame(alloc, record, picture)?;
+    Ok(Some(packet))
 }
 
 // Whether a picture is encoded as these bytes.
@@ -131,11 +126,13 @@ fn worked_pictures(rt: HostRuntime) -> Result<(), Fail> {
     let chroma = Shape::of(4, 2, Chroma::Shifts { h: 1, v: 1 }).ok_or("a shape")?;
     let plain = default_record(a, square, Coder::Range, 1, 1)?.with_ec(false);
     let cells = default_record(a, chroma, Coder::Range, 2, 1)?;
+    let rice = default_record(a, chroma, Coder::Rice, 2, 1)?;
     let zeros = Picture::zero(a, square)?;
     let black = Picture::blank(a, chroma)?;
     let samples = [16, 16, 16, 16, 16, 16, 16, 16, 128, 128, 128, 128];
     assert!(rt; has_bytes(a, &plain, &zeros, &[0xFE, 0xEB, 0, 0, 2]));
     assert!(rt; is_read_back(a, &plain, &zeros, &[0, 0, 0, 0]));
     assert!(rt; is_read_back(a, &cells, &black, &samples));
+    assert!(rt; is_read_back(a, &rice, &black, &samples));
     Ok(())
 }
