@@ -10,3 +10,6 @@ mod shelf;
 
 pub use fault::LoadFault;
 pub use shelf::Shelf;
+
+#[cfg(test)]
+mod tests;
