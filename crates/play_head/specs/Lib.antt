@@ -7,3 +7,8 @@ pub mod Working
 pub mod Putting
 pub mod Told
 pub mod Saying
+pub mod Acts
+pub mod Playing
+pub mod PlayingLine
+pub mod PlayingScript
+pub mod Carrying

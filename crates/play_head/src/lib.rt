@@ -6,6 +6,7 @@
 #![tactic(auto)]
 
 mod calls;
+mod halt;
 mod roll;
 mod say;
 mod stop;

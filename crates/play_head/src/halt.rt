@@ -1,0 +1,20 @@
+//! What stops a line of a script.
+
+use tl_ports::FetchFault;
+
+/// Why a line stopped before its end.
+#[derive(Clone, Copy, Debug, PartialEq, Eq)]
+pub(crate) enum Halt {
+    /// The line's edit list wasn't fetched, for another cause than want of memory.
+    Store { fault: FetchFault },
+    /// A picture couldn't be put to the screen.
+    Screen,
+    /// A line couldn't be put out.
+    Out,
+    /// Memory ran out in a call, a fetch, an edit list or a picture.
+    NoMemory,
+    /// Memory ran out for a line.
+    OutMemory,
+    /// The journal has `len` entries and owes `owed` more, and the next call doesn't fit.
+    JournalFull { len: u64, owed: u64 },
+}
