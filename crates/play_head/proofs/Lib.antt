@@ -4,3 +4,6 @@ pub mod Turning
 pub mod Pieces
 pub mod Rows
 pub mod Speaking
+pub mod Filled
+pub mod Carried
+pub mod Finishing

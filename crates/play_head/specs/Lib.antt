@@ -12,3 +12,4 @@ pub mod Playing
 pub mod PlayingLine
 pub mod PlayingScript
 pub mod Carrying
+pub mod Blanks

@@ -6,6 +6,7 @@
 #![tactic(auto)]
 
 mod calls;
+mod exports;
 mod halt;
 mod roll;
 mod say;
@@ -13,6 +14,7 @@ mod stop;
 mod told;
 mod work;
 
+pub use exports::{carry, finish_exports};
 pub use roll::Roll;
 pub use stop::Stop;
 

@@ -1,5 +1,8 @@
 //! The calls of a roll, in order.
 
+mod blanks;
+mod carrying;
+
 use super::*;
 use std::process::Abort;
 use tl_model::Act;
