@@ -1,7 +1,7 @@
 pub mod Roll
 pub mod RollLeft
 pub mod Heard
-pub mod Stop
+pub mod Halting
 pub mod Work
 pub mod Working
 pub mod Putting

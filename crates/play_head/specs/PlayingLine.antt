@@ -83,7 +83,7 @@ module _ {M K F : Type 0} where
   StopsLine s old new (p, left) halt.OutMemory = PutsSome s old new (output_of s (s.library old.desk.fixed.library) p)
   StopsLine s old new (p, left) halt.NoMemory =
       (PutsSome s old new (output_of s (s.library old.desk.fixed.library) p)
-          × GotAll s.tells.out old.out new.out (texts (lines_of (s.library old.desk.fixed.library) p)))
+      × GotAll s.tells.out old.out new.out (texts (lines_of (s.library old.desk.fixed.library) p)))
       ⊎ (IsUnrendered p × PutsAll s old new no_output)
   StopsLine s old new (p, left) (halt.JournalFull len owing) = PutsAll s old new (output_of s (s.library old.desk.fixed.library) p)
       × IsFull s.library new.desk (next_need left (state_of s.library new.desk)) (full.JournalFull len owing)

@@ -85,7 +85,7 @@ module _ {M K F : Type 0} where
   SaysStop s old new (call, why) (what, true) =
       ((what ≡ stop_of why) × (is_silent why ≡ true) × (new.out ≡ old.out))
       ⊎ (GotFront s.tells.out old.out new.out (texts (stop_lines call why))
-          × (((what ≡ stop_of why) × Rose old.out.faults new.out.faults) ⊎ (what ≡ stop.OutMemory)))
+      × (((what ≡ stop_of why) × Rose old.out.faults new.out.faults) ⊎ (what ≡ stop.OutMemory)))
 
   -- A script stopped.
   pub record StopsScript (s : Setting M F) (old new : Player M K) (body : List BodyLine) (ended : Stop × Bool) : Type 0 where
