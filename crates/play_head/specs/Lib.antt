@@ -9,6 +9,7 @@ pub mod Told
 pub mod Saying
 pub mod Acts
 pub mod Playing
+pub mod Marking
 pub mod PlayingLine
 pub mod PlayingScript
 pub mod Carrying

@@ -38,9 +38,9 @@ output_of s lib p = record { lines = lines_of lib p; rows = rows_of s lib p }
 abbrev pub no_output : Output
 no_output = record { lines = []; rows = [] }
 
--- The need of the call that comes next; a turn of work claims.
+-- The need of the call that comes next. Where none does, nothing is needed.
 abbrev pub next_need : List Act → State → ℕ
-next_need [] s = 2
+next_need [] s = 0
 next_need (next ∷ left) s = need next s
 
 -- The file that a line reads, and the most bytes that it may have.

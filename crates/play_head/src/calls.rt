@@ -18,7 +18,7 @@ use tl_model::{Edit, EditReply, Name};
 use tl_ports::{PutFault, Sink};
 
 /// Puts a line.
-fn speak<O: Sink>(alloc: Global, out: &mut O, line: &OutLine) -> Result<(), Halt>
+pub(crate) fn speak<O: Sink>(alloc: Global, out: &mut O, line: &OutLine) -> Result<(), Halt>
     requires { IsTrue (is_listed line.now) }
     ensures { Speaks O.tells (O.seen out.old) (O.seen out.new) line.now result }
 {

@@ -12,6 +12,7 @@ mod say;
 mod stop;
 mod told;
 mod work;
+mod working;
 
 pub use roll::Roll;
 pub use stop::Stop;
