@@ -4,3 +4,7 @@ pub mod Turning
 pub mod Pieces
 pub mod Rows
 pub mod Speaking
+pub mod Acting
+pub mod Lining
+pub mod Giving
+pub mod Listing

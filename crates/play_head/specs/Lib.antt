@@ -12,4 +12,7 @@ pub mod Playing
 pub mod Marking
 pub mod PlayingLine
 pub mod PlayingScript
+pub mod PlayingActs
+pub mod Giving
+pub mod Listing
 pub mod Carrying

@@ -7,7 +7,10 @@
 
 mod calls;
 mod halt;
+mod lists;
+mod pictures;
 mod roll;
+mod rolling;
 mod say;
 mod stop;
 mod told;
