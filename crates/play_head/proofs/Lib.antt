@@ -4,3 +4,7 @@ pub mod Turning
 pub mod Pieces
 pub mod Rows
 pub mod Speaking
+pub mod Growing
+pub mod Naming
+pub mod Marking
+pub mod Bodies
