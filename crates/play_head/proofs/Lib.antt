@@ -8,3 +8,7 @@ pub mod Acting
 pub mod Lining
 pub mod Giving
 pub mod Listing
+pub mod Growing
+pub mod Naming
+pub mod Marking
+pub mod Bodies

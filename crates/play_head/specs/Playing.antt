@@ -1,5 +1,5 @@
 -- What the lines of a script's body do, as one caller of an editing core.
-use Rattle.std.specs.Prelude.{◌≡◌, ◌⊎◌, ◌<◌, ◌≤◌, ℕ, Bool, true, false, IsTrue, List, [], ◌∷◌, ◌++◌, length, map, filter, codes, Option, Result, Ok, Err}
+use Rattle.std.specs.Prelude.{◌≡◌, ◌⊎◌, ◌<◌, ◌≤◌, ℕ, Bool, true, false, IsTrue, List, [], ◌∷◌, ◌++◌, length, map, filter, codes, Option, Some, Result, Ok, Err}
 use Rattle.std.specs.List.{count_by, flat_map}
 use Rattle.tl_limits.specs.Limits.{max_text_bytes}
 use Rattle.tl_model.specs.Media.{Library}

@@ -53,6 +53,14 @@ abbrev pub IsUnrendered : {F : Type 0} → Played F → Type 0
 IsUnrendered p = (number n : ℕ) × (recipe : Recipe)
     × (p.calls ≡ record { pass = number; act = act.Show n; told = Render recipe } ∷ [])
 
+module _ {M K : Type 0} where
+  -- What stays, and what never falls.
+  pub record Lasts (old new : Player M K) : Type 0 where
+    pub files : new.store.file ≡ old.store.file
+    pub store : old.store.faults ≤ new.store.faults
+    pub screen : old.screen.faults ≤ new.screen.faults
+    pub out : old.out.faults ≤ new.out.faults
+
 module _ {M K F : Type 0} where
   -- Both sinks got all of it.
   abbrev pub PutsAll : Setting M F → (old new : Player M K) → Output → Type 0
@@ -63,13 +71,6 @@ module _ {M K F : Type 0} where
   abbrev pub PutsSome : Setting M F → (old new : Player M K) → Output → Type 0
   PutsSome s old new output = GotFront s.tells.out old.out new.out (texts output.lines)
       × GotFront s.tells.screen old.screen new.screen output.rows
-
-  -- What stays, and what never falls.
-  pub record Lasts (old new : Player M K) : Type 0 where
-    pub files : new.store.file ≡ old.store.file
-    pub store : old.store.faults ≤ new.store.faults
-    pub screen : old.screen.faults ≤ new.screen.faults
-    pub out : old.out.faults ≤ new.out.faults
 
   -- Why a line stopped, with these acts left, and what it put by then.
   abbrev pub StopsLine : Setting M F → (old new : Player M K) → Played F × List Act → Halt → Type 0

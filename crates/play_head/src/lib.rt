@@ -5,8 +5,12 @@
 //! `stop` what stops a script before its end.
 #![tactic(auto)]
 
+mod body;
 mod calls;
+mod edits;
+mod ending;
 mod halt;
+mod lines;
 mod lists;
 mod pictures;
 mod roll;
@@ -17,6 +21,8 @@ mod told;
 mod work;
 mod working;
 
+pub use body::{play_body, play_script};
+pub use ending::Playback;
 pub use roll::Roll;
 pub use stop::Stop;
 
