@@ -13,8 +13,8 @@ use Rattle.render_core.specs.Calls.{CallOf}
 use Rattle.render_core.specs.Step.{Reply, need, Edited, Wanted, Cancelled, PastEnd, Claimed, Filed, Released, Closed, Picture, Fault, Pending, Render, Asked, EmptyTimeline, Taken, Silent}
 use Rattle.render_core.specs.declared.reply.Full.{Full}
 use Rattle.render_core.specs.declared.reply.Full.TheVariants as full
-use Rattle.edit_desk.specs.Desk.{FixedOf, DeskOf, Hears, state_of}
-use Rattle.edit_desk.proofs.Heard.{hears_on}
+use Rattle.edit_desk.specs.Desk.{FixedOf, DeskOf, Hears, Shows, state_of}
+use Rattle.edit_desk.proofs.Heard.{hears_on, hears_learns, hears_enters}
 use Rattle.script_lang.specs.declared.out_line.OutLine.{OutLine}
 use Rattle.script_lang.specs.Line.{line_text}
 use Rattle.play_head.specs.declared.halt.Halt.{Halt}
@@ -228,6 +228,20 @@ module _ {M K F : Type 0} (m : Manner M F) where
   says_acts old new what (Err (halt.JournalFull len owing)) said e h = refused_by old new what (full.JournalFull len owing) e h.1 h.0
   says_acts old new what (Err (halt.Store fault)) said e h = absurd h
   says_acts old new what (Err halt.Screen) said e h = absurd h
+
+  -- a show that was refused, or whose picture found no memory
+  pub unshown : (old new : Scene M K) (n : ℕ) (why : Full) (s : Halt) → s ≡ halt_for why → new.screen ≡ old.screen → new.out ≡ old.out → Shows m.library old.desk new.desk n (Err why) → PlaysActs m old new (act.Show n ∷ []) (Err s)
+  unshown old new n (full.JournalFull len owing) s is e f h =
+      refused_act old new (act.Show n) (full.JournalFull len owing) s is e f (hears_learns m.library old.desk new.desk h.0, h.1)
+  unshown old new n full.NoMemory s is e f (inl h) =
+      refused_act old new (act.Show n) full.NoMemory s is e f (hears_learns m.library old.desk new.desk h.0, h.1)
+  unshown old new n full.NoMemory s is e f (inr h) = subst (λ (x : Halt). PlaysActs m old new (act.Show n ∷ []) (Err x)) (sym is) (record {
+    calls = one old (act.Show n) (Render h.0) ∷ []; left = []; is = refl; spoken = (record { said = tt; told = tt }, tt);
+    hears = hears_enters m.library old.desk new.desk (act.Show n) (Render h.0) h.1;
+    ends = inr ((old.desk.fixed.number, n, h.0, refl), same_gives old new e f);
+    screen = not_more _ _ (ap (λ (s : SinkSeen). s.faults) e);
+    out = not_more _ _ (ap (λ (s : SinkSeen). s.faults) f);
+  })
 
   -- ---- calls after calls
 

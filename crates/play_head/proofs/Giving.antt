@@ -22,7 +22,7 @@ use Rattle.play_head.specs.Told.{fault_word, picture_line, line_of}
 
 -- ---- a play
 
-fault-listed : {F : Type 0} (n : ℕ) (why : RenderFault) (kind : FrameFault) → why.kind ≡ kind → IsTrue (is_listed (play_line {F} n (play.Fault (record why { kind = kind }))))
+fault-listed : {F : Type 0} (n : ℕ) (why : RenderFault) (kind : FrameFault) → why.kind ≡ kind → IsTrue (is_listed (play_line {F = F} n (play.Fault (record why { kind = kind }))))
 unfolding fields
 fault-listed n why fault.Empty e = refl
 fault-listed n why fault.Chain e = refl
@@ -37,7 +37,7 @@ fault-listed n why (fault.Overrun slice) e = refl
 pub play_line-listed : {F : Type 0} (n : ℕ) (told : PlayReply F) → IsTrue (is_listed (play_line n told))
 unfolding fields
 play_line-listed n (play.Frame frame) = refl
-play_line-listed {F} n (play.Fault why) = fault-listed {F} n why why.kind refl
+play_line-listed {F} n (play.Fault why) = fault-listed {F = F} n why why.kind refl
 play_line-listed n (play.Pending recipe) = refl
 play_line-listed n (play.PastEnd len) = refl
 
@@ -62,7 +62,7 @@ play-answer (play.PastEnd len) = tt
 -- ---- a show, which is told what the machine replies but the render of a recipe
 
 -- of a recipe that was rendered
-is_render : {F : Type 0} → Reply F → Bool
+abbrev is_render : {F : Type 0} → Reply F → Bool
 is_render (Render recipe) = true
 is_render other = false
 

@@ -62,7 +62,7 @@ few_lines text h =
 
 -- ---- what a list is read as
 
-pub reads_fault : (clips : List (List ℕ × ℕ)) (rate : ℕ) (text : List ℕ) (fault : EdlFault) → Gives {Edl} {Edl} (λ (list : Edl). list) (Err fault) (edl rate text) → ReadsAs clips rate text (Err fault)
+pub reads_fault : (clips : List (List ℕ × ℕ)) (rate : ℕ) (text : List ℕ) (fault : EdlFault) → Gives {X = Edl} {Y = Edl} (λ (list : Edl). list) (Err fault) (edl rate text) → ReadsAs clips rate text (Err fault)
 reads_fault clips rate text faults.NoMemory h = tt
 reads_fault clips rate text (faults.Line n why) h = subst (λ (r : Result Edl EdlFault). BuildsTo clips r (Err (faults.Line n why))) (sym h) refl
 

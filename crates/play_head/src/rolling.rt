@@ -34,7 +34,7 @@ where
     match act {
         Act::Want { first, len } => want(alloc, desk, out, *first, *len),
         Act::Play { n } => play(alloc, desk, screen, out, gate, *n),
-        _ => Ok(()),
+        _ => unreachable!(),
     }
 }
 
