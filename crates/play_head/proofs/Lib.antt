@@ -8,3 +8,4 @@ pub mod Growing
 pub mod Naming
 pub mod Marking
 pub mod Bodies
+pub mod Stopping

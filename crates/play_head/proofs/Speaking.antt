@@ -78,15 +78,15 @@ ask_line-is lib n ask.EmptyTimeline = refl
 
 -- ---- the reply brings no picture and files nothing
 
-pub want-plain : {F : Type 0} (told : WantReply) → IsPlain {F} (of_want told)
+pub want-plain : {F : Type 0} (told : WantReply) → IsPlain {F = F} (of_want told)
 want-plain (want.Wanted count) = tt
 want-plain (want.PastEnd len) = tt
 
-pub cancel-plain : {F : Type 0} (told : CancelReply) → IsPlain {F} (of_cancel told)
+pub cancel-plain : {F : Type 0} (told : CancelReply) → IsPlain {F = F} (of_cancel told)
 cancel-plain (cancel.Cancelled count) = tt
 cancel-plain (cancel.PastEnd len) = tt
 
-pub ask-plain : {F : Type 0} (told : AskReply) → IsPlain {F} (of_ask told)
+pub ask-plain : {F : Type 0} (told : AskReply) → IsPlain {F = F} (of_ask told)
 ask-plain (ask.Asked export) = tt
 ask-plain ask.EmptyTimeline = tt
 
