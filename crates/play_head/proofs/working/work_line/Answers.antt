@@ -6,9 +6,9 @@ use Rattle.play_head.proofs.working.work_line.Goals as goal
 
 pub returns-in-Ok : goal.returns-in-Ok
 returns-in-Ok g c = inr (record {
-  worked = c.work.result;
-  marks = marked g.D.Lib.Media.library (g.D.Desk.desk c.args.desk.now) (g.D.Desk.desk c.mark.new.self) (g.D.Desk.desk c.work.new.desk) c.args.turns c.work.result
-      (hears_enters g.D.Lib.Media.library _ _ _ _ c.in-Ok.ensures) c.work.ensures;
+  worked = c.work-worked.result;
+  marks = marked g.D.Lib.Media.library (g.D.Desk.desk c.args.desk.now) (g.D.Desk.desk c.mark.new.self) (g.D.Desk.desk c.work-worked.new.desk) c.args.turns c.work-worked.result
+      (hears_enters g.D.Lib.Media.library _ _ _ _ c.in-Ok.ensures) c.work-worked.ensures;
   says = c.say_worked.ensures;
 })
 
