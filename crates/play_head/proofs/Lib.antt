@@ -4,6 +4,10 @@ pub mod Turning
 pub mod Pieces
 pub mod Rows
 pub mod Speaking
+pub mod Acting
+pub mod Lining
+pub mod Giving
+pub mod Listing
 pub mod Growing
 pub mod Naming
 pub mod Marking

@@ -13,4 +13,7 @@ pub mod Playing
 pub mod Marking
 pub mod PlayingLine
 pub mod PlayingScript
+pub mod PlayingActs
+pub mod Giving
+pub mod Listing
 pub mod Carrying
