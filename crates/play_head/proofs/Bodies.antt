@@ -12,7 +12,7 @@ use Rattle.script_lang.specs.ScriptSound.{IsCall, AreCalls}
 use Rattle.play_head.specs.declared.halt.Halt.{Halt}
 use Rattle.play_head.specs.declared.halt.Halt.TheVariants as halt
 use Rattle.play_head.specs.declared.stop.Stop.{Stop}
-use Rattle.play_head.specs.Playing.{Tells, Setting, Player, player}
+use Rattle.play_head.specs.Playing.{Tells, Player, player}
 use Rattle.play_head.specs.PlayingLine.{PlaysLine, PlaysPart}
 use Rattle.play_head.specs.PlayingScript.{PlaysLines, PlaysScript, StopsBy, setting_of}
 use Rattle.play_head.proofs.Growing.{lines_more}
@@ -34,23 +34,20 @@ body_parts body i line within is =
     ∙ append_assoc (take i body) (line ∷ []) (drop (i + 1) body)
 
 module _ {M K : Type 0} (library : M → Library Image) (clips : List (List ℕ × ℕ)) (rate : ℕ) (tells : Tells) where
-  abbrev by_files : (List ℕ → Option (List ℕ)) → Setting M Image
-  by_files files = setting_of library clips rate files tells
-
   -- one line more was played to its end
-  pub body_next : (old mid new : Player M K) (body : List BodyLine) (i : ℕ) (line : BodyLine) → i < length body → line ≡ get_or body i line → PlaysLines (by_files old.store.file) old mid (take i body) → PlaysLine (by_files mid.store.file) mid new line (Ok tt) → PlaysLines (by_files old.store.file) old new (take (i + 1) body)
+  pub body_next : (old mid new : Player M K) (body : List BodyLine) (i : ℕ) (line : BodyLine) → i < length body → line ≡ get_or body i line → PlaysLines (setting_of library clips rate old.store.file tells) old mid (take i body) → PlaysLine (setting_of library clips rate mid.store.file tells) mid new line (Ok tt) → PlaysLines (setting_of library clips rate old.store.file tells) old new (take (i + 1) body)
   body_next old mid new body i line within is f w =
-      let here = subst (λ (files : List ℕ → Option (List ℕ)). PlaysLine (by_files files) mid new line (Ok tt)) f.lasts.files w in
-      subst (PlaysLines (by_files old.store.file) old new) (sym (front_more body i line within is)) (lines_more (by_files old.store.file) old mid new (take i body) line f here.0 here.1)
+      let here = subst (λ (files : List ℕ → Option (List ℕ)). PlaysLine (setting_of library clips rate files tells) mid new line (Ok tt)) f.lasts.files w in
+      subst (PlaysLines (setting_of library clips rate old.store.file tells) old new) (sym (front_more body i line within is)) (lines_more (setting_of library clips rate old.store.file tells) old mid new (take i body) line f here.0 here.1)
 
   -- memory that ran out for a fetch isn't told as a fault of the store
-  pub part_stored : (files : List ℕ → Option (List ℕ)) (old new : Player M K) (line : BodyLine) (why : Halt) → PlaysLine (by_files files) old new line (Err why) → why ≢ halt.Store fetching.NoMemory
-  part_stored files old new line why w e = let part = subst (λ (x : Halt). PlaysPart (by_files files) old new line x) e w.0 in part.stops.2 refl
+  pub part_stored : (files : List ℕ → Option (List ℕ)) (old new : Player M K) (line : BodyLine) (why : Halt) → PlaysLine (setting_of library clips rate files tells) old new line (Err why) → why ≢ halt.Store fetching.NoMemory
+  part_stored files old new line why w e = let part = subst (λ (x : Halt). PlaysPart (setting_of library clips rate files tells) old new line x) e w.0 in part.stops.2 refl
 
-  stopped_by : (old mid halted : Player M K) (after : SinkSeen) (body : List BodyLine) (i : ℕ) (line : BodyLine) (why : Halt) (r : Result Unit Stop) (silenced : Bool) → i < length body → line ≡ get_or body i line → PlaysLines (by_files old.store.file) old mid (take i body) → PlaysLine (by_files mid.store.file) mid halted line (Err why) → StopsBy tells.out halted.out after (line.call, why) (r, silenced) → PlaysScript (by_files old.store.file) old (record halted { out = after }) body (r, silenced)
+  stopped_by : (old mid halted : Player M K) (after : SinkSeen) (body : List BodyLine) (i : ℕ) (line : BodyLine) (why : Halt) (r : Result Unit Stop) (silenced : Bool) → i < length body → line ≡ get_or body i line → PlaysLines (setting_of library clips rate old.store.file tells) old mid (take i body) → PlaysLine (setting_of library clips rate mid.store.file tells) mid halted line (Err why) → StopsBy tells.out halted.out after (line.call, why) (r, silenced) → PlaysScript (setting_of library clips rate old.store.file tells) old (record halted { out = after }) body (r, silenced)
   stopped_by old mid halted after body i line why (Ok done) silenced within is f w h = absurd h
   stopped_by old mid halted after body i line why (Err what) silenced within is f w h =
-      let here = subst (λ (files : List ℕ → Option (List ℕ)). PlaysLine (by_files files) mid halted line (Err why)) f.lasts.files w in
+      let here = subst (λ (files : List ℕ → Option (List ℕ)). PlaysLine (setting_of library clips rate files tells) mid halted line (Err why)) f.lasts.files w in
       record {
         why = why;
         halted = halted;
@@ -60,10 +57,10 @@ module _ {M K : Type 0} (library : M → Library Image) (clips : List (List ℕ 
       }
 
   -- a line stopped the script
-  pub body_stops : (old mid : Player M K) (desk : DeskOf M K) (store : StoreSeen) (screen before after : SinkSeen) (body : List BodyLine) (i : ℕ) (line : BodyLine) (why : Halt) (r : Result Unit Stop) (silenced : Bool) → i < length body → line ≡ get_or body i line → PlaysLines (by_files old.store.file) old mid (take i body) → PlaysLine (by_files mid.store.file) mid (player desk store screen before) line (Err why) → StopsBy tells.out before after (line.call, why) (r, silenced) → PlaysScript (by_files old.store.file) old (player desk store screen after) body (r, silenced)
+  pub body_stops : (old mid : Player M K) (desk : DeskOf M K) (store : StoreSeen) (screen before after : SinkSeen) (body : List BodyLine) (i : ℕ) (line : BodyLine) (why : Halt) (r : Result Unit Stop) (silenced : Bool) → i < length body → line ≡ get_or body i line → PlaysLines (setting_of library clips rate old.store.file tells) old mid (take i body) → PlaysLine (setting_of library clips rate mid.store.file tells) mid (player desk store screen before) line (Err why) → StopsBy tells.out before after (line.call, why) (r, silenced) → PlaysScript (setting_of library clips rate old.store.file tells) old (player desk store screen after) body (r, silenced)
   body_stops old mid desk store screen before after body i line why r silenced within is f w h =
       stopped_by old mid (player desk store screen before) after body i line why r silenced within is f w h
 
   -- all lines were played
-  pub body_ends : (old new : Player M K) (body : List BodyLine) (i : ℕ) → length body ≤ i → PlaysLines (by_files old.store.file) old new (take i body) → PlaysScript (by_files old.store.file) old new body (Ok tt, false)
-  body_ends old new body i past f = subst (PlaysLines (by_files old.store.file) old new) (take_all body i past) f
+  pub body_ends : (old new : Player M K) (body : List BodyLine) (i : ℕ) → length body ≤ i → PlaysLines (setting_of library clips rate old.store.file tells) old new (take i body) → PlaysScript (setting_of library clips rate old.store.file tells) old new body (Ok tt, false)
+  body_ends old new body i past f = subst (PlaysLines (setting_of library clips rate old.store.file tells) old new) (take_all i body past) f

@@ -12,3 +12,5 @@ pub mod Growing
 pub mod Naming
 pub mod Marking
 pub mod Bodies
+pub mod Asking
+pub mod Stopping

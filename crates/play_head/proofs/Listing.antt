@@ -102,15 +102,18 @@ module _ {M K F : Type 0} (s : Setting M F) where
 
   -- the line stopped before its call
   unbegun : (old new : Player M K) (line : BodyLine) (file : List ℕ) (why : Halt) → line.call ≡ call.Edl file → Hears s.library old.desk new.desk [] → Lasts old new → StopsLine s old new (no_calls line, act.Skip ∷ []) why → PlaysLine s old new line (Err why)
-  unbegun old new line file why is h lasts stops = (record {
-    played = no_calls line;
-    is = refl;
-    left = act.Skip ∷ [];
-    begun = subst (λ (c : Call). HasSomeCalls s new.desk (no_calls line) c (act.Skip ∷ [])) (sym is) refl;
-    list = inl refl;
-    hears = h;
-    stops = stops;
-  }, lasts)
+  unbegun old new line file why is h lasts stops = (
+    record {
+      played = no_calls line;
+      is = refl;
+      left = act.Skip ∷ [];
+      begun = subst (λ (c : Call). HasSomeCalls s new.desk (no_calls line) c (act.Skip ∷ [])) (sym is) refl;
+      list = inl refl;
+      hears = h;
+      stops = stops;
+    },
+    lasts,
+  )
 
   same_count : (a b : ℕ) → b ≡ a → a ≤ b
   same_count a b e = omega (arith, e)
@@ -158,15 +161,18 @@ module _ {M K F : Type 0} (s : Setting M F) where
 
   -- it was passed over, and its line wasn't put whole
   half_passed : (old new : Player M K) (line : BodyLine) (file : List ℕ) (fault : EdlFault) (why : Halt) → line.call ≡ call.Edl file → IsRead s file (Err fault) → Hears s.library old.desk new.desk (skip_call old.desk ∷ []) → Lasts old new → StopsLine s old new (passed old line fault, []) why → PlaysLine s old new line (Err why)
-  half_passed old new line file fault why is read h lasts stops = (record {
-    played = passed old line fault;
-    is = refl;
-    left = [];
-    begun = subst (λ (c : Call). HasSomeCalls s new.desk (passed old line fault) c []) (sym is) refl;
-    list = inr (subst (λ (c : Call). ReadsList s c (Err fault)) (sym is) read);
-    hears = h;
-    stops = stops;
-  }, lasts)
+  half_passed old new line file fault why is read h lasts stops = (
+    record {
+      played = passed old line fault;
+      is = refl;
+      left = [];
+      begun = subst (λ (c : Call). HasSomeCalls s new.desk (passed old line fault) c []) (sym is) refl;
+      list = inr (subst (λ (c : Call). ReadsList s c (Err fault)) (sym is) read);
+      hears = h;
+      stops = stops;
+    },
+    lasts,
+  )
 
   lasts_out : (old new : Player M K) → new.store ≡ old.store → new.screen ≡ old.screen → old.out.faults ≤ new.out.faults → Lasts old new
   lasts_out old new e f g = record {
@@ -177,16 +183,19 @@ module _ {M K F : Type 0} (s : Setting M F) where
   }
 
   passed_over : (old new : Player M K) (line : BodyLine) (file : List ℕ) (fault : EdlFault) (r : Result Unit Halt) → line.call ≡ call.Edl file → new.store ≡ old.store → new.screen ≡ old.screen → IsRead s file (Err fault) → Skips s.library s.tells.out (place old.desk old.out) (place new.desk new.out) (list_line (Err fault), r) → PlaysLine s old new line r
-  passed_over old new line file fault (Ok done) is store screen read h = (record {
-    played = passed old line fault;
-    is = refl;
-    whole = record {
-      calls = subst (λ (c : Call). HasCalls s new.desk (heard s.library old.desk) (passed old line fault) c) (sym is) refl;
-      list = subst (λ (c : Call). ReadsList s c (Err fault)) (sym is) read;
-    };
-    hears = h.0;
-    puts = (h.1.0, same_all s.tells.screen old.screen new.screen screen);
-  }, lasts_out old new store screen (same_count _ _ h.1.1))
+  passed_over old new line file fault (Ok done) is store screen read h = (
+    record {
+      played = passed old line fault;
+      is = refl;
+      whole = record {
+        calls = subst (λ (c : Call). HasCalls s new.desk (heard s.library old.desk) (passed old line fault) c) (sym is) refl;
+        list = subst (λ (c : Call). ReadsList s c (Err fault)) (sym is) read;
+      };
+      hears = h.0;
+      puts = (h.1.0, same_all s.tells.screen old.screen new.screen screen);
+    },
+    lasts_out old new store screen (same_count _ _ h.1.1),
+  )
   passed_over old new line file fault (Err halt.Out) is store screen read h =
       half_passed old new line file fault halt.Out is read h.0 (lasts_out old new store screen h.1.2)
       ((h.1.0, same_front s.tells.screen old.screen new.screen [] screen), h.1.1)

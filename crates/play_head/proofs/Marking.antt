@@ -173,7 +173,7 @@ module _ {M K F : Type 0} (s : Setting M F) (desk now : DeskOf M K) (store : Sto
         lasts_by (let e = ap (λ (o : SinkSeen). o.faults) h.1 in omega (arith, e)),
       )
 
-  module _ (worked : Worked) (m : Marks {M} {K} {F} s.library desk now turns worked) where
+  module _ (worked : Worked) (m : Marks s.library desk now turns worked) where
     abbrev lib : Library F
     lib = s.library desk.fixed.library
 

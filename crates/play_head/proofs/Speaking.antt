@@ -78,17 +78,17 @@ ask_line-is lib n ask.EmptyTimeline = refl
 
 -- ---- the reply brings no picture and files nothing
 
-pub want-plain : {F : Type 0} (told : WantReply) → IsPlain {F} (of_want told)
-want-plain (want.Wanted count) = tt
-want-plain (want.PastEnd len) = tt
+pub want-plain : (F : Type 0) (told : WantReply) → IsPlain {F = F} (of_want told)
+want-plain F (want.Wanted count) = tt
+want-plain F (want.PastEnd len) = tt
 
-pub cancel-plain : {F : Type 0} (told : CancelReply) → IsPlain {F} (of_cancel told)
-cancel-plain (cancel.Cancelled count) = tt
-cancel-plain (cancel.PastEnd len) = tt
+pub cancel-plain : (F : Type 0) (told : CancelReply) → IsPlain {F = F} (of_cancel told)
+cancel-plain F (cancel.Cancelled count) = tt
+cancel-plain F (cancel.PastEnd len) = tt
 
-pub ask-plain : {F : Type 0} (told : AskReply) → IsPlain {F} (of_ask told)
-ask-plain (ask.Asked export) = tt
-ask-plain ask.EmptyTimeline = tt
+pub ask-plain : (F : Type 0) (told : AskReply) → IsPlain {F = F} (of_ask told)
+ask-plain F (ask.Asked export) = tt
+ask-plain F ask.EmptyTimeline = tt
 
 module _ {M K F : Type 0} (library : M → Library F) where
   by_result : (tells : Bool) (old new : DeskOf M K) (before after : SinkSeen) (what : Act) (reply : Reply F) (r : Result Unit Halt) → IsPlain reply → HearsAct library old new what reply → Speaks tells before after (line_of (library old.fixed.library) (frame_of what) 0 reply) r → SaysCall library tells (place old before) (place new after) (what, r)

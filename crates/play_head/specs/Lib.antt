@@ -8,6 +8,7 @@ pub mod Putting
 pub mod Told
 pub mod Saying
 pub mod Acts
+pub mod Blacks
 pub mod Playing
 pub mod Marking
 pub mod PlayingLine

@@ -122,7 +122,7 @@ module _ {M K F : Type 0} where
   StopsActs m old new (calls, left) halt.OutMemory = GivesSome m old new (calls_output m (m.library old.desk.fixed.library) calls)
   StopsActs m old new (calls, left) halt.NoMemory =
       (GivesSome m old new (calls_output m (m.library old.desk.fixed.library) calls)
-          × GivesLines m old new (calls_output m (m.library old.desk.fixed.library) calls))
+      × GivesLines m old new (calls_output m (m.library old.desk.fixed.library) calls))
       ⊎ (IsLostShow calls × GivesAll m old new no_output)
   StopsActs m old new (calls, left) (halt.JournalFull len owing) =
       GivesAll m old new (calls_output m (m.library old.desk.fixed.library) calls) × HasNoRoom m new left len owing

@@ -1,6 +1,7 @@
 //! The edit that a line asks for, over the session's clips.
 
 ghost use Rattle.std.specs.Prelude.{◌≡◌, ◌≤◌, length, IfSome};
+ghost use Rattle.std.specs.Str.{bytes_eq};
 ghost use Rattle.tl_limits.specs.Limits.{IsSmall, max_clips, max_frames};
 ghost use Rattle.tl_model.specs.Edit.{IsEdit, IsSideWithin};
 ghost use Rattle.script_lang.specs.ScriptSound.{IsCall};
@@ -8,6 +9,13 @@ ghost use Rattle.play_head.specs.Acts.{clip_number, side_of, place_edit, edit_fo
 
 use script_lang::Call;
 use tl_model::{Clips, Edit, Name, Side};
+
+/// Whether a clip has a name.
+fn is_named(clip: &Name, name: &Name) -> bool
+    ensures { result ≡ bytes_eq clip.now name.now }
+{
+    clip.as_str().as_bytes() == name.as_str().as_bytes()
+}
 
 /// The number of the first clip of a name, or the number of clips where none has it.
 fn clip_number(clips: &Clips, name: &Name) -> u32
@@ -17,7 +25,7 @@ fn clip_number(clips: &Clips, name: &Name) -> u32
 {
     let mut number = 0;
     for (other, _) in clips.as_slice() {
-        if other.as_str().as_bytes() == name.as_str().as_bytes() {
+        if is_named(other, name) {
             return number;
         }
         number += 1;

@@ -35,6 +35,13 @@ fn store_word(fault: FetchFault) -> &'static str
     }
 }
 
+fn store_kind(alloc: Global, fault: FetchFault) -> Result<Name, AllocError>
+    ensures { IfOk result (λ name. name ≡ store_word fault) }
+{
+    let text = String::from_str(alloc, store_word(fault))?;
+    Ok(Name::from_text(text))
+}
+
 /// The name of the file that a line reads, empty for a line that reads none.
 fn file_read(alloc: Global, call: &Call) -> Result<Name, AllocError>
     ensures { IfOk result (λ name. name ≡ (file_wanted call.now).name) }
@@ -52,7 +59,7 @@ fn store_line(alloc: Global, call: &Call, fault: FetchFault) -> Result<OutLine, 
     ensures listed { IfOk result (λ line. IsTrue (is_listed line)) }
 {
     let name = file_read(alloc, call)?;
-    let kind = Name::from_text(String::from_str(alloc, store_word(fault))?);
+    let kind = store_kind(alloc, fault)?;
     Ok(OutLine::Store { name, kind })
 }
 

@@ -13,7 +13,7 @@ use crate::edits::edit_for;
 use crate::halt::Halt;
 use crate::lists::list;
 use crate::pictures::{play, show};
-use crate::rolls::roll;
+use crate::rolling::roll;
 use crate::working::work_line;
 use edit_desk::Desk;
 use pic_planes::Picture;

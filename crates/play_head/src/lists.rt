@@ -110,8 +110,14 @@ where
     requires rate { IsRate rate }
     requires clips { length clips.now ≤ max_clips }
     ensures { (line : BodyLine) (screen : SinkSeen) (shows : Bool) → line.call ≡ call.Edl file.now → PlaysLine
-        (record { library = D.Lib.library; rows = image_rows; clips = clips.now; rate = rate; files = (T.seen store.old).file;
-            tells = record { store = T.tells; screen = shows; out = O.tells } })
+        (record {
+          library = D.Lib.library;
+          rows = image_rows;
+          clips = clips.now;
+          rate = rate;
+          files = (T.seen store.old).file;
+          tells = record { store = T.tells; screen = shows; out = O.tells };
+        })
         (record { desk = D.desk desk.old; store = T.seen store.old; screen = screen; out = O.seen out.old })
         (record { desk = D.desk desk.new; store = T.seen store.new; screen = screen; out = O.seen out.new }) line result }
 {

@@ -8,7 +8,7 @@ use Rattle.play_head.proofs.calls.ask.Goals as goal
 pub returns-in-Ok : goal.returns-in-Ok
 returns-in-Ok g c =
     says g.D.Lib.Media.library g.O.Sink.tells (g.D.Desk.desk c.args.desk.now) (g.D.Desk.desk c.ask_export.new.self) (g.O.Sink.seen c.args.out.now) (g.O.Sink.seen c.speak_ask.new.out) (act.Ask c.args.name.now) (of_ask c.in-Ok.told) (ask_line c.in-Ok.told) c.speak_ask.result
-    (ask-plain c.in-Ok.told) (hears_enters g.D.Lib.Media.library _ _ _ _ c.in-Ok.ensures) (ask_line-is (g.D.Lib.Media.library (g.D.Desk.desk c.args.desk.now).fixed.library) 0 c.in-Ok.told) c.speak_ask.ensures
+    (ask-plain _ c.in-Ok.told) (hears_enters g.D.Lib.Media.library _ _ _ _ c.in-Ok.ensures) (ask_line-is (g.D.Lib.Media.library (g.D.Desk.desk c.args.desk.now).fixed.library) 0 c.in-Ok.told) c.speak_ask.ensures
 
 pub returns-in-Err : goal.returns-in-Err
 returns-in-Err g c =

@@ -12,7 +12,7 @@ speak-requires g c = listed c.want_line.result (want_line c.in-Ok.told) c.want_l
 pub returns-in-Ok : goal.returns-in-Ok
 returns-in-Ok g c =
     says g.D.Lib.Media.library g.O.Sink.tells (g.D.Desk.desk c.args.desk.now) (g.D.Desk.desk c.want.new.self) (g.O.Sink.seen c.args.out.now) (g.O.Sink.seen c.speak.new.out) (act.Want c.args.first c.args.len) (of_want c.in-Ok.told) c.want_line.result c.speak.result
-    (want-plain c.in-Ok.told) (hears_enters g.D.Lib.Media.library _ _ _ _ c.in-Ok.ensures) (c.want_line.ensures ∙ want_line-is (g.D.Lib.Media.library (g.D.Desk.desk c.args.desk.now).fixed.library) 0 c.in-Ok.told) c.speak.ensures
+    (want-plain _ c.in-Ok.told) (hears_enters g.D.Lib.Media.library _ _ _ _ c.in-Ok.ensures) (c.want_line.ensures ∙ want_line-is (g.D.Lib.Media.library (g.D.Desk.desk c.args.desk.now).fixed.library) 0 c.in-Ok.told) c.speak.ensures
 
 pub returns-in-Err : goal.returns-in-Err
 returns-in-Err g c =
