@@ -211,28 +211,32 @@ module _ {M K F : Type 0} (s : Setting M F) where
   acts_line_is : (old new : Player M K) (line : BodyLine) (list : Result (List Segment) EdlFault) (r : Result Unit Halt) → IsNoWork line.call → ReadsList s line.call list → new.store ≡ old.store → PlaysActs manner_of (scene_of old) (scene_of new) (line_acts s.clips line.call list) r → PlaysLine s old new line r
   acts_line_is old new line list (Ok done) u reads e h =
       let p : Played F = record { line = line; list = list; calls = h.calls } in
-      let all : acts_of h.calls ≡ line_acts s.clips line.call list = sym (h.is ∙ ap (λ (as : List Act). acts_of h.calls ++ as) h.ends.0 ∙ append-nil (acts_of h.calls)) in
-      (record {
-        played = p;
-        is = refl;
-        whole = record { calls = has_calls new.desk (heard s.library old.desk) p line.call u all; list = reads };
-        hears = h.hears;
-        puts = puts_all _ old new p h.spoken h.ends.1;
-      }, lasts old new (line_acts s.clips line.call list) (Ok done) e h)
+      let all : acts_of h.calls ≡ line_acts s.clips line.call list = sym (h.is ∙ ap (λ (those : List Act). acts_of h.calls ++ those) h.ends.0 ∙ append-nil (acts_of h.calls)) in (
+        record {
+          played = p;
+          is = refl;
+          whole = record { calls = has_calls new.desk (heard s.library old.desk) p line.call u all; list = reads };
+          hears = h.hears;
+          puts = puts_all _ old new p h.spoken h.ends.1;
+        },
+        lasts old new (line_acts s.clips line.call list) (Ok done) e h,
+      )
   acts_line_is old new line list (Err why) u reads e h =
-      let p : Played F = record { line = line; list = list; calls = h.calls } in
-      (record {
-        played = p;
-        is = refl;
-        left = h.left;
-        begun = has_some new.desk p line.call h.left u h.is;
-        list = inr reads;
-        hears = h.hears;
-        stops = stops_line old new p h.left why h.spoken h.ends;
-      }, lasts old new (line_acts s.clips line.call list) (Err why) e h)
+      let p : Played F = record { line = line; list = list; calls = h.calls } in (
+        record {
+          played = p;
+          is = refl;
+          left = h.left;
+          begun = has_some new.desk p line.call h.left u h.is;
+          list = inr reads;
+          hears = h.hears;
+          stops = stops_line old new p h.left why h.spoken h.ends;
+        },
+        lasts old new (line_acts s.clips line.call list) (Err why) e h,
+      )
 
   -- of a line whose call is known
   pub acts_line : (old new : Player M K) (line : BodyLine) (is : Call) (list : Result (List Segment) EdlFault) (acts : List Act) (r : Result Unit Halt) → line.call ≡ is → IsNoWork is → ReadsList s is list → acts ≡ line_acts s.clips is list → new.store ≡ old.store → PlaysActs manner_of (scene_of old) (scene_of new) acts r → PlaysLine s old new line r
   acts_line old new line is list acts r e u reads same store h =
       acts_line_is old new line list r (subst IsNoWork (sym e) u) (subst (λ (c : Call). ReadsList s c list) (sym e) reads) store
-      (subst (λ (as : List Act). PlaysActs manner_of (scene_of old) (scene_of new) as r) (same ∙ ap (λ (c : Call). line_acts s.clips c list) (sym e)) h)
+      (subst (λ (those : List Act). PlaysActs manner_of (scene_of old) (scene_of new) those r) (same ∙ ap (λ (c : Call). line_acts s.clips c list) (sym e)) h)
