@@ -7,3 +7,13 @@ pub mod Speaking
 pub mod Filled
 pub mod Carried
 pub mod Finishing
+pub mod Acting
+pub mod Lining
+pub mod Giving
+pub mod Listing
+pub mod Growing
+pub mod Naming
+pub mod Marking
+pub mod Bodies
+pub mod Asking
+pub mod Stopping

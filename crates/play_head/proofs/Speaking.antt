@@ -20,11 +20,11 @@ use Rattle.render_core.specs.Step.{Reply, need}
 use Rattle.edit_desk.specs.Desk.{DeskOf, state_of}
 use Rattle.script_lang.specs.declared.out_line.OutLine.{OutLine}
 use Rattle.script_lang.specs.Line.{fields, is_listed}
-use Rattle.play_head.specs.declared.stop.Stop.{Stop}
-use Rattle.play_head.specs.declared.stop.Stop.TheVariants as stop
+use Rattle.play_head.specs.declared.halt.Halt.{Halt}
+use Rattle.play_head.specs.declared.halt.Halt.TheVariants as halt
 use Rattle.play_head.specs.Heard.{Refused}
-use Rattle.play_head.specs.Stop.{stop_for}
-use Rattle.play_head.specs.Saying.{Speaks, SaysCall, place}
+use Rattle.play_head.specs.Halting.{halt_for}
+use Rattle.play_head.specs.Saying.{Speaks, IsPlain, SaysCall, place}
 use Rattle.play_head.specs.Told.{edit_line, want_line, cancel_line, ask_line, line_of, frame_of}
 use Rattle.play_head.specs.Working.{HearsAct}
 
@@ -76,22 +76,36 @@ pub ask_line-is : {F : Type 0} (lib : Library F) (n : ℕ) (told : AskReply) →
 ask_line-is lib n (ask.Asked export) = refl
 ask_line-is lib n ask.EmptyTimeline = refl
 
+-- ---- the reply brings no picture and files nothing
+
+pub want-plain : (F : Type 0) (told : WantReply) → IsPlain {F = F} (of_want told)
+want-plain F (want.Wanted count) = tt
+want-plain F (want.PastEnd len) = tt
+
+pub cancel-plain : (F : Type 0) (told : CancelReply) → IsPlain {F = F} (of_cancel told)
+cancel-plain F (cancel.Cancelled count) = tt
+cancel-plain F (cancel.PastEnd len) = tt
+
+pub ask-plain : (F : Type 0) (told : AskReply) → IsPlain {F = F} (of_ask told)
+ask-plain F (ask.Asked export) = tt
+ask-plain F ask.EmptyTimeline = tt
+
 module _ {M K F : Type 0} (library : M → Library F) where
-  by_result : (tells : Bool) (old new : DeskOf M K) (before after : SinkSeen) (what : Act) (reply : Reply F) (r : Result Unit Stop) → HearsAct library old new what reply → Speaks tells before after (line_of (library old.fixed.library) (frame_of what) 0 reply) r → SaysCall library tells (place old before) (place new after) (what, r)
-  by_result tells old new before after what reply (Ok done) h k = record { answer = reply; hears = h; says = k }
-  by_result tells old new before after what reply (Err stop.Out) h k = record { answer = reply; hears = h; says = k }
-  by_result tells old new before after what reply (Err stop.OutMemory) h k = record { answer = reply; hears = h; says = k }
-  by_result tells old new before after what reply (Err stop.Store) h k = k
-  by_result tells old new before after what reply (Err stop.Screen) h k = k
-  by_result tells old new before after what reply (Err stop.NoMemory) h k = absurd k
-  by_result tells old new before after what reply (Err (stop.JournalFull len owing)) h k = absurd k
+  by_result : (tells : Bool) (old new : DeskOf M K) (before after : SinkSeen) (what : Act) (reply : Reply F) (r : Result Unit Halt) → IsPlain reply → HearsAct library old new what reply → Speaks tells before after (line_of (library old.fixed.library) (frame_of what) 0 reply) r → SaysCall library tells (place old before) (place new after) (what, r)
+  by_result tells old new before after what reply (Ok done) p h k = record { answer = reply; plain = p; hears = h; says = k }
+  by_result tells old new before after what reply (Err halt.Out) p h k = record { answer = reply; plain = p; hears = h; says = k }
+  by_result tells old new before after what reply (Err halt.OutMemory) p h k = record { answer = reply; plain = p; hears = h; says = k }
+  by_result tells old new before after what reply (Err (halt.Store fault)) p h k = k
+  by_result tells old new before after what reply (Err halt.Screen) p h k = k
+  by_result tells old new before after what reply (Err halt.NoMemory) p h k = absurd k
+  by_result tells old new before after what reply (Err (halt.JournalFull len owing)) p h k = absurd k
 
-  pub says : (tells : Bool) (old new : DeskOf M K) (before after : SinkSeen) (what : Act) (reply : Reply F) (line : OutLine) (r : Result Unit Stop) → HearsAct library old new what reply → line ≡ line_of (library old.fixed.library) (frame_of what) 0 reply → Speaks tells before after line r → SaysCall library tells (place old before) (place new after) (what, r)
-  says tells old new before after what reply line r h e k = by_result tells old new before after what reply r h (subst (λ (l : OutLine). Speaks tells before after l r) e k)
+  pub says : (tells : Bool) (old new : DeskOf M K) (before after : SinkSeen) (what : Act) (reply : Reply F) (line : OutLine) (r : Result Unit Halt) → IsPlain reply → HearsAct library old new what reply → line ≡ line_of (library old.fixed.library) (frame_of what) 0 reply → Speaks tells before after line r → SaysCall library tells (place old before) (place new after) (what, r)
+  says tells old new before after what reply line r p h e k = by_result tells old new before after what reply r p h (subst (λ (l : OutLine). Speaks tells before after l r) e k)
 
-  by_why : (tells : Bool) (old new : DeskOf M K) (out : SinkSeen) (what : Act) (why : Full) → Refused library old new (need what (state_of library new)) why → SaysCall library tells (place old out) (place new out) (what, Err (stop_for why))
+  by_why : (tells : Bool) (old new : DeskOf M K) (out : SinkSeen) (what : Act) (why : Full) → Refused library old new (need what (state_of library new)) why → SaysCall library tells (place old out) (place new out) (what, Err (halt_for why))
   by_why tells old new out what (full.JournalFull len owing) h = (h, refl)
   by_why tells old new out what full.NoMemory h = (h, refl)
 
-  pub refuses : (tells : Bool) (old new : DeskOf M K) (out : SinkSeen) (what : Act) (why : Full) (s : Stop) → s ≡ stop_for why → Refused library old new (need what (state_of library new)) why → SaysCall library tells (place old out) (place new out) (what, Err s)
-  refuses tells old new out what why s e h = subst (λ (x : Stop). SaysCall library tells (place old out) (place new out) (what, Err x)) (sym e) (by_why tells old new out what why h)
+  pub refuses : (tells : Bool) (old new : DeskOf M K) (out : SinkSeen) (what : Act) (why : Full) (s : Halt) → s ≡ halt_for why → Refused library old new (need what (state_of library new)) why → SaysCall library tells (place old out) (place new out) (what, Err s)
+  refuses tells old new out what why s e h = subst (λ (x : Halt). SaysCall library tells (place old out) (place new out) (what, Err x)) (sym e) (by_why tells old new out what why h)

@@ -112,13 +112,13 @@ module _ {M K F : Type 0} (library : M → Library F) where
   }
 
   pub turn_made : (old mid new : DeskOf M K) (claim : ClaimOf) (t : Turned) → HearsAct library old mid act.Claim (Claimed claim.job claim.recipe) → Ends library mid new claim t → Turns library old new (Ok t)
-  turn_made old mid new claim (turned.Ended true) h k = made old mid new claim (act.File claim.job) Filed true false h k (inl refl) refl refl
+  turn_made old mid new claim (turned.Ended true) h k = made old mid new claim (act.File claim.job) Filed true false h k (inl refl, tt) refl refl
   turn_made old mid new claim (turned.Ended false) h k = either k.1
     where
       either : HearsAct library mid new (act.File claim.job) (Closed k.0) ⊎ HearsAct library mid new (act.Release claim.job) (Closed k.0) → MakesTurn library old new false false
-      either (inl x) = made old mid new claim (act.File claim.job) (Closed k.0) false false h x (inl refl) refl refl
-      either (inr x) = made old mid new claim (act.Release claim.job) (Closed k.0) false false h x (inr refl) refl refl
-  turn_made old mid new claim turned.Released h k = made old mid new claim (act.Release claim.job) Released false true h k (inr refl) refl refl
+      either (inl x) = made old mid new claim (act.File claim.job) (Closed k.0) false false h x (inl refl, tt) refl refl
+      either (inr x) = made old mid new claim (act.Release claim.job) (Closed k.0) false false h x (inr refl, tt) refl refl
+  turn_made old mid new claim turned.Released h k = made old mid new claim (act.Release claim.job) Released false true h k (inr refl, tt) refl refl
   turn_made old mid new claim turned.Idle h k = absurd k
   turn_made old mid new claim turned.Stopped h k = absurd k
 
@@ -181,21 +181,21 @@ module _ {M K F : Type 0} (library : M → Library F) where
       subst (Hears library old new) (append-nil (turns_calls old.fixed.number w.done)) (hears_on library old mid new (turns_calls old.fixed.number w.done) [] w.hears h)
 
   -- none where no job is queued, the session was stopped or a claim was refused
-  pub works_ended : (old mid new : DeskOf M K) (turns made filed : ℕ) (refused : Option Full) → made < turns → IsWorking old mid made filed → Hears library mid new [] → ((done : List (Turn F)) → HasCause library new turns done refused) → Works library old new turns (record { filed = filed; refused = refused })
+  pub works_ended : (old mid new : DeskOf M K) (turns made filed : ℕ) (refused : Option Full) → made < turns → IsWorking old mid made filed → Hears library mid new [] → ((done : List (Turn F)) → length done < turns → HasCause library new turns done refused) → Works library old new turns (record { filed = filed; refused = refused })
   works_ended old mid new turns made filed refused h w still cause = record {
     done = w.done;
     hears = hears_still old mid new made filed w still;
     are_turns = ended_turns w.done w.ended;
     filed = w.filed_is;
     few = (let m = w.made_is in omega (arith, m, h));
-    cause = cause w.done;
+    cause = cause w.done (let m = w.made_is in omega (arith, m, h));
   }
 
   pub works_idle : (old mid new : DeskOf M K) (turns made filed : ℕ) → made < turns → IsWorking old mid made filed → Hears library mid new [] → IsIdle (state_of library new) → Works library old new turns (record { filed = filed; refused = None })
-  works_idle old mid new turns made filed h w still idle = works_ended old mid new turns made filed None h w still (λ done. inr (inr (inl idle)))
+  works_idle old mid new turns made filed h w still idle = works_ended old mid new turns made filed None h w still (λ done fewer. inr (inr (inl idle)))
 
   pub works_stopped : (old mid new : DeskOf M K) (turns made filed : ℕ) → made < turns → IsWorking old mid made filed → Hears library mid new [] → IsTrue (state_of library new).is_stopped → Works library old new turns (record { filed = filed; refused = None })
-  works_stopped old mid new turns made filed h w still stopped = works_ended old mid new turns made filed None h w still (λ done. inr (inr (inr stopped)))
+  works_stopped old mid new turns made filed h w still stopped = works_ended old mid new turns made filed None h w still (λ done fewer. inr (inr (inr stopped)))
 
   pub works_refused : (old mid new : DeskOf M K) (turns made filed : ℕ) (why : Full) → made < turns → IsWorking old mid made filed → Hears library mid new [] → IsFull library new 2 why → Works library old new turns (record { filed = filed; refused = Some why })
-  works_refused old mid new turns made filed why h w still full = works_ended old mid new turns made filed (Some why) h w still (λ done. full)
+  works_refused old mid new turns made filed why h w still full = works_ended old mid new turns made filed (Some why) h w still (λ done fewer. (fewer, full))

@@ -1,6 +1,7 @@
 -- What each line of a script's body asks an editing core for.
 use Rattle.std.specs.Prelude.{◌≡◌, ℕ, List, [], ◌∷◌, length, codes, Option, Some, None, Result, Ok, Err, if◌then◌else◌}
 use Rattle.std.specs.Str.{bytes_eq}
+use Rattle.tl_model.specs.declared.edit.Edit.{Edit}
 use Rattle.tl_model.specs.declared.edit.Edit.TheVariants as edit
 use Rattle.tl_model.specs.declared.journal.Act.{Act}
 use Rattle.tl_model.specs.declared.journal.Act.TheVariants as act
@@ -27,6 +28,23 @@ clip_number clips name = number_or (length clips) (clip_from 0 clips name)
 -- the frames of a clip from one on, or black
 abbrev pub side_of : (clips : List (List ℕ × ℕ)) → (name : List ℕ) → (first : ℕ) → Side
 side_of clips name first = if bytes_eq name (codes "black") then side.Black else side.Clip (clip_number clips name) first
+
+-- The edit that a line asks for, if its call is an edit of a place.
+abbrev pub place_edit : Call → Option Edit
+place_edit (call.Extract at len) = Some (edit.Extract at len)
+place_edit (call.Lift at len) = Some (edit.Lift at len)
+place_edit (call.Split at) = Some (edit.Split at)
+place_edit (call.TrimIn at by) = Some (edit.TrimIn at by)
+place_edit (call.TrimOut at by) = Some (edit.TrimOut at by)
+place_edit (call.Slip at by) = Some (edit.Slip at by)
+place_edit (call.Dissolve at len) = Some (edit.Dissolve at len)
+place_edit other = None
+
+abbrev pub edit_for : (clips : List (List ℕ × ℕ)) → Call → Option Edit
+edit_for clips (call.Insert at name first len) = Some (edit.Insert at (side_of clips name first) len)
+edit_for clips (call.Overwrite at name first len) = Some (edit.Overwrite at (side_of clips name first) len)
+edit_for clips (call.Relink at name first) = Some (edit.Relink at (clip_number clips name) first)
+edit_for clips other = place_edit other
 
 -- An edit list replaces the timeline; a faulty one is passed over.
 abbrev pub list_act : Result (List Segment) EdlFault → Act

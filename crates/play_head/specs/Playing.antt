@@ -1,5 +1,5 @@
 -- What the lines of a script's body do, as one caller of an editing core.
-use Rattle.std.specs.Prelude.{◌≡◌, ◌⊎◌, ◌≤◌, ℕ, Bool, true, false, IsTrue, List, [], ◌∷◌, ◌++◌, length, map, filter, codes, Option, Result, Ok, Err}
+use Rattle.std.specs.Prelude.{◌≡◌, ◌⊎◌, ◌<◌, ◌≤◌, ℕ, Bool, true, false, IsTrue, List, [], ◌∷◌, ◌++◌, length, map, filter, codes, Option, Some, Result, Ok, Err}
 use Rattle.std.specs.List.{count_by, flat_map}
 use Rattle.tl_limits.specs.Limits.{max_text_bytes}
 use Rattle.tl_model.specs.Media.{Library}
@@ -49,6 +49,9 @@ pub record Player (M K : Type 0) : Type 0 where
   pub screen : SinkSeen
   pub out : SinkSeen
 
+abbrev pub player : {M K : Type 0} → DeskOf M K → StoreSeen → (screen out : SinkSeen) → Player M K
+player desk store screen out = record { desk = desk; store = store; screen = screen; out = out }
+
 -- What a line did: its calls with those of its turns of work, in order, each with what it was told; and, where it names an edit list,
 -- the list's segments or its first faulty line.
 pub record Played (F : Type 0) : Type 0 where
@@ -93,6 +96,10 @@ pub record HasTurns {F : Type 0} (number turns : ℕ) (calls : List (CallOf F)) 
   pub are_turns : AreTurns done
   pub few : length done ≤ turns
 
+-- No turn of work is left to be made, or another claim is.
+abbrev pub LeavesTurns : (made turns : ℕ) → (left : List Act) → Type 0
+LeavesTurns made turns left = (left ≡ []) ⊎ ((made < turns) × (left ≡ act.Claim ∷ []))
+
 module _ {M K F : Type 0} where
   -- Why no more turns of work were made: there were as many as were asked for; the last gave its job back; or, with just these calls
   -- of the caller's, no job was queued or the session was stopped. `calls` are all that it had heard by then.
@@ -119,8 +126,8 @@ module _ {M K F : Type 0} where
 
   -- The calls of a line that was begun: a front of those of the whole line, of which these acts are left.
   abbrev pub HasSomeCalls : Setting M F → DeskOf M K → Played F → Call → (left : List Act) → Type 0
-  HasSomeCalls s d p (call.Work turns) left =
-      ((p.calls ≡ []) × (left ≡ act.Mark turns ∷ [])) ⊎ ((done : List (Turn F)) × HasTurns d.fixed.number turns p.calls done × (left ≡ []))
+  HasSomeCalls s d p (call.Work turns) left = ((p.calls ≡ []) × (left ≡ act.Mark turns ∷ []))
+      ⊎ ((done : List (Turn F)) × HasTurns d.fixed.number turns p.calls done × LeavesTurns (length done) turns left)
   HasSomeCalls s d p other left = line_acts s.clips other p.list ≡ acts_of p.calls ++ left
 
 -- ---- what is put of it

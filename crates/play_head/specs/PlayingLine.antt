@@ -38,9 +38,9 @@ output_of s lib p = record { lines = lines_of lib p; rows = rows_of s lib p }
 abbrev pub no_output : Output
 no_output = record { lines = []; rows = [] }
 
--- The need of the call that comes next; a turn of work claims.
+-- The need of the call that comes next. Where none does, nothing is needed.
 abbrev pub next_need : List Act → State → ℕ
-next_need [] s = 2
+next_need [] s = 0
 next_need (next ∷ left) s = need next s
 
 -- The file that a line reads, and the most bytes that it may have.
@@ -53,6 +53,14 @@ abbrev pub IsUnrendered : {F : Type 0} → Played F → Type 0
 IsUnrendered p = (number n : ℕ) × (recipe : Recipe)
     × (p.calls ≡ record { pass = number; act = act.Show n; told = Render recipe } ∷ [])
 
+module _ {M K : Type 0} where
+  -- What stays, and what never falls.
+  pub record Lasts (old new : Player M K) : Type 0 where
+    pub files : new.store.file ≡ old.store.file
+    pub store : old.store.faults ≤ new.store.faults
+    pub screen : old.screen.faults ≤ new.screen.faults
+    pub out : old.out.faults ≤ new.out.faults
+
 module _ {M K F : Type 0} where
   -- Both sinks got all of it.
   abbrev pub PutsAll : Setting M F → (old new : Player M K) → Output → Type 0
@@ -63,13 +71,6 @@ module _ {M K F : Type 0} where
   abbrev pub PutsSome : Setting M F → (old new : Player M K) → Output → Type 0
   PutsSome s old new output = GotFront s.tells.out old.out new.out (texts output.lines)
       × GotFront s.tells.screen old.screen new.screen output.rows
-
-  -- What stays, and what never falls.
-  pub record Lasts (old new : Player M K) : Type 0 where
-    pub files : new.store.file ≡ old.store.file
-    pub store : old.store.faults ≤ new.store.faults
-    pub screen : old.screen.faults ≤ new.screen.faults
-    pub out : old.out.faults ≤ new.out.faults
 
   -- Why a line stopped, with these acts left, and what it put by then.
   abbrev pub StopsLine : Setting M F → (old new : Player M K) → Played F × List Act → Halt → Type 0
@@ -83,7 +84,7 @@ module _ {M K F : Type 0} where
   StopsLine s old new (p, left) halt.OutMemory = PutsSome s old new (output_of s (s.library old.desk.fixed.library) p)
   StopsLine s old new (p, left) halt.NoMemory =
       (PutsSome s old new (output_of s (s.library old.desk.fixed.library) p)
-          × GotAll s.tells.out old.out new.out (texts (lines_of (s.library old.desk.fixed.library) p)))
+      × GotAll s.tells.out old.out new.out (texts (lines_of (s.library old.desk.fixed.library) p)))
       ⊎ (IsUnrendered p × PutsAll s old new no_output)
   StopsLine s old new (p, left) (halt.JournalFull len owing) = PutsAll s old new (output_of s (s.library old.desk.fixed.library) p)
       × IsFull s.library new.desk (next_need left (state_of s.library new.desk)) (full.JournalFull len owing)

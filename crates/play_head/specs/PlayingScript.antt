@@ -1,10 +1,12 @@
 -- What playing a script's body does: its lines one after another, and where one stops it, the stop line.
-use Rattle.std.specs.Prelude.{◌≡◌, ◌⊎◌, ℕ, Bool, true, false, List, [], ◌∷◌, ◌++◌, map, codes, Result, Ok, Err}
+use Rattle.std.specs.Prelude.{◌≡◌, ◌⊎◌, ℕ, Bool, true, false, List, [], ◌∷◌, ◌++◌, map, codes, Option, Some, None, Result, Ok, Err}
 use Rattle.std.specs.List.{flat_map}
+use Rattle.pic_planes.specs.Picture.{Image}
 use Rattle.tl_model.specs.Media.{Library}
 use Rattle.tl_ports.specs.declared.fault.FetchFault.{FetchFault}
 use Rattle.tl_ports.specs.declared.fault.FetchFault.TheVariants as fetching
 use Rattle.tl_ports.specs.Outside.{Rose}
+use Rattle.tl_ports.specs.Seen.{SinkSeen}
 use Rattle.edit_desk.specs.Desk.{Hears, heard}
 use Rattle.script_lang.specs.declared.out_line.OutLine.{OutLine}
 use Rattle.script_lang.specs.declared.out_line.OutLine.TheVariants as out
@@ -14,7 +16,8 @@ use Rattle.play_head.specs.declared.halt.Halt.{Halt}
 use Rattle.play_head.specs.declared.halt.Halt.TheVariants as halt
 use Rattle.play_head.specs.declared.stop.Stop.{Stop}
 use Rattle.play_head.specs.declared.stop.Stop.TheVariants as stop
-use Rattle.play_head.specs.Playing.{Setting, Player, Played, AreWhole, lines_of, rows_of}
+use Rattle.play_head.specs.Playing.{Tells, Setting, Player, Played, AreWhole, lines_of, rows_of}
+use Rattle.play_head.specs.PlayingActs.{image_rows}
 use Rattle.play_head.specs.PlayingLine.{Output, PutsAll, Lasts, PlaysPart, file_wanted, texts}
 use Rattle.play_head.specs.Putting.{GotAll, GotFront}
 
@@ -37,6 +40,10 @@ stop_lines call halt.NoMemory = out.NoMemory ∷ []
 stop_lines call halt.OutMemory = []
 stop_lines call (halt.JournalFull len owing) = out.JournalFull len owing ∷ []
 
+abbrev pub list_of : Option OutLine → List OutLine
+list_of None = []
+list_of (Some line) = line ∷ []
+
 abbrev pub stop_of : Halt → Stop
 stop_of (halt.Store fault) = stop.Store
 stop_of halt.Screen = stop.Screen
@@ -50,6 +57,30 @@ abbrev pub is_silent : Halt → Bool
 is_silent halt.Out = true
 is_silent halt.OutMemory = true
 is_silent other = false
+
+-- The stop line is put, and whether nothing more may be put then. Want of memory for it is what stops the script.
+abbrev pub SaysStop : Bool → (old new : SinkSeen) → Call × Halt → Stop × Bool → Type 0
+SaysStop tells old new (call, why) (what, false) = (is_silent why ≡ false) × (what ≡ stop_of why)
+    × GotAll tells old new (texts (stop_lines call why))
+SaysStop tells old new (call, why) (what, true) = ((what ≡ stop_of why) × (is_silent why ≡ true) × (new ≡ old))
+    ⊎ (GotFront tells old new (texts (stop_lines call why))
+    × (((what ≡ stop_of why) × Rose old.faults new.faults) ⊎ (what ≡ stop.OutMemory)))
+
+abbrev pub StopsBy : Bool → (old new : SinkSeen) → Call × Halt → Result Unit Stop × Bool → Type 0
+StopsBy tells old new at (Ok done, silenced) = ⊥
+StopsBy tells old new at (Err what, silenced) = SaysStop tells old new at (what, silenced)
+
+-- With clips and a rate, as pictures go to the screen.
+abbrev pub setting_of : {M : Type 0} → (M → Library Image) → (clips : List (List ℕ × ℕ)) → (rate : ℕ) → (List ℕ → Option (List ℕ)) → Tells → Setting M Image
+setting_of library clips rate files tells =
+    record { library = library; rows = image_rows; clips = clips; rate = rate; files = files; tells = tells }
+
+module _ {M K : Type 0} where
+  -- Nothing but `out` changes.
+  pub record OnlyPuts (old new : Player M K) : Type 0 where
+    pub desk : new.desk ≡ old.desk
+    pub store : new.store ≡ old.store
+    pub screen : new.screen ≡ old.screen
 
 module _ {M K F : Type 0} where
   -- Lines were played to their end, one after another.
@@ -72,27 +103,12 @@ module _ {M K F : Type 0} where
     pub part : PlaysPart s between new line why
     pub lasts : Lasts between new
 
-  -- Nothing but `out` changes.
-  pub record OnlyPuts (old new : Player M K) : Type 0 where
-    pub desk : new.desk ≡ old.desk
-    pub store : new.store ≡ old.store
-    pub screen : new.screen ≡ old.screen
-
-  -- The stop line is put, and whether nothing more may be put then. Want of memory for it is what stops the script.
-  abbrev pub SaysStop : Setting M F → (old new : Player M K) → Call × Halt → Stop × Bool → Type 0
-  SaysStop s old new (call, why) (what, false) = (is_silent why ≡ false) × (what ≡ stop_of why)
-      × GotAll s.tells.out old.out new.out (texts (stop_lines call why))
-  SaysStop s old new (call, why) (what, true) =
-      ((what ≡ stop_of why) × (is_silent why ≡ true) × (new.out ≡ old.out))
-      ⊎ (GotFront s.tells.out old.out new.out (texts (stop_lines call why))
-          × (((what ≡ stop_of why) × Rose old.out.faults new.out.faults) ⊎ (what ≡ stop.OutMemory)))
-
   -- A script stopped.
   pub record StopsScript (s : Setting M F) (old new : Player M K) (body : List BodyLine) (ended : Stop × Bool) : Type 0 where
     pub why : Halt
     pub halted : Player M K
     pub plays : PlaysFront s old halted body why
-    pub says : SaysStop s halted new (plays.line.call, why) ended
+    pub says : SaysStop s.tells.out halted.out new.out (plays.line.call, why) ended
     pub only : OnlyPuts halted new
 
   -- The whole body was played; or it was stopped, and whether nothing more may be put to `out`.

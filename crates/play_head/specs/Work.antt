@@ -6,7 +6,7 @@ use Rattle.tl_model.specs.declared.journal.Act.{Act}
 use Rattle.tl_model.specs.declared.journal.Act.TheVariants as act
 use Rattle.render_core.specs.Calls.{CallOf}
 use Rattle.render_core.specs.State.{State, is_queued}
-use Rattle.render_core.specs.Step.{Reply, Claimed, Filed, Released}
+use Rattle.render_core.specs.Step.{Reply, Claimed, Filed, Released, Closed}
 
 -- A turn: the job that was claimed, how it was ended, and what that was told.
 pub record Turn (F : Type 0) : Type 0 where
@@ -37,9 +37,16 @@ is_filed told = false
 abbrev pub filed_count : {F : Type 0} → List (Turn F) → ℕ
 filed_count turns = count_by (λ turn. is_filed turn.told) turns
 
+-- What an end may be told.
+abbrev pub IsEndReply : {F : Type 0} → Reply F → Type 0
+IsEndReply Filed = Unit {0}
+IsEndReply Released = Unit {0}
+IsEndReply (Closed at) = Unit {0}
+IsEndReply other = ⊥
+
 -- The end is that of the job that was claimed: its result, or that it was given back.
 abbrev pub IsTurn : {F : Type 0} → Turn F → Type 0
-IsTurn turn = (turn.end ≡ act.File turn.job) ⊎ (turn.end ≡ act.Release turn.job)
+IsTurn turn = ((turn.end ≡ act.File turn.job) ⊎ (turn.end ≡ act.Release turn.job)) × IsEndReply turn.told
 
 -- Turns of which none was given back while it was open.
 abbrev pub AreEnded : {F : Type 0} → List (Turn F) → Type 0

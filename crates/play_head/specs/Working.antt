@@ -1,5 +1,5 @@
 -- What turns of work do at a desk, and what they tell.
-use Rattle.std.specs.Prelude.{◌≡◌, ◌⊎◌, ℕ, ◌≤◌, Bool, true, false, IsTrue, List, [], ◌∷◌, length, Option, Some, None, Result, Ok, Err}
+use Rattle.std.specs.Prelude.{◌≡◌, ◌⊎◌, ℕ, ◌<◌, ◌≤◌, Bool, true, false, IsTrue, List, [], ◌∷◌, length, Option, Some, None, Result, Ok, Err}
 use Rattle.tl_model.specs.Media.{Library}
 use Rattle.tl_model.specs.declared.journal.Act.{Act}
 use Rattle.tl_model.specs.declared.journal.Act.TheVariants as act
@@ -46,7 +46,7 @@ module _ {M K F : Type 0} where
   -- Why no more turns were made: a claim was refused; or there were as many as were asked for, the last gave its job back, no job is
   -- queued, or the session was stopped.
   abbrev pub HasCause : (M → Library F) → (new : DeskOf M K) (turns : ℕ) → List (Turn F) → Option Full → Type 0
-  HasCause library new turns done (Some why) = IsFull library new 2 why
+  HasCause library new turns done (Some why) = (length done < turns) × IsFull library new 2 why
   HasCause library new turns done None =
       (length done ≡ turns) ⊎ (EndsReleased done ⊎ (IsIdle (state_of library new) ⊎ IsTrue (state_of library new).is_stopped))
 

@@ -1,5 +1,9 @@
 //! What stops a line of a script.
 
+ghost use Rattle.std.specs.Prelude.{◌≡◌};
+ghost use Rattle.play_head.specs.Halting.{halt_for};
+
+use render_core::Full;
 use tl_ports::FetchFault;
 
 /// Why a line stopped before its end.
@@ -17,4 +21,14 @@ pub(crate) enum Halt {
     OutMemory,
     /// The journal has `len` entries and owes `owed` more, and the next call doesn't fit.
     JournalFull { len: u64, owed: u64 },
+}
+
+/// What stops the line where a call was refused.
+pub(crate) fn halt_for(why: Full) -> Halt
+    ensures { result ≡ halt_for why }
+{
+    match why {
+        Full::JournalFull { len, owed } => Halt::JournalFull { len, owed },
+        Full::NoMemory => Halt::NoMemory,
+    }
 }

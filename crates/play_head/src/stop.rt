@@ -1,9 +1,9 @@
 //! What stops a script.
 
 ghost use Rattle.std.specs.Prelude.{◌≡◌};
-ghost use Rattle.play_head.specs.Stop.{stop_for};
+ghost use Rattle.play_head.specs.PlayingScript.{stop_of};
 
-use render_core::Full;
+use crate::halt::Halt;
 
 /// Why a script stopped before its end.
 #[derive(Clone, Copy, Debug, PartialEq, Eq)]
@@ -22,12 +22,16 @@ pub enum Stop {
     JournalFull { len: u64, owed: u64 },
 }
 
-/// What stops the script where a call was refused.
-pub(crate) fn stop_for(why: Full) -> Stop
-    ensures { result ≡ stop_for why }
+/// What stops the script where a line of it stopped.
+pub(crate) fn stop_of(why: Halt) -> Stop
+    ensures { result ≡ stop_of why }
 {
     match why {
-        Full::JournalFull { len, owed } => Stop::JournalFull { len, owed },
-        Full::NoMemory => Stop::NoMemory,
+        Halt::Store { fault: _ } => Stop::Store,
+        Halt::Screen => Stop::Screen,
+        Halt::Out => Stop::Out,
+        Halt::NoMemory => Stop::NoMemory,
+        Halt::OutMemory => Stop::OutMemory,
+        Halt::JournalFull { len, owed } => Stop::JournalFull { len, owed },
     }
 }

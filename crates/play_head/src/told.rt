@@ -1,15 +1,19 @@
 //! The line of each call, by what it was told.
 
-ghost use Rattle.std.specs.Prelude.{◌≡◌, IfOk, IsTrue, codes};
+ghost use Rattle.std.specs.Prelude.{◌≡◌, Err, IfOk, IsTrue, codes};
 ghost use Rattle.std.specs.Str.{IsUtf8};
 ghost use Rattle.script_lang.specs.declared.out_line.OutLine.TheVariants as out;
 ghost use Rattle.script_lang.specs.Line.{is_listed};
-ghost use Rattle.play_head.specs.Told.{refusal_word, edit_line, want_line, cancel_line, ask_line};
+ghost use Rattle.play_head.specs.Told.{refusal_word, fault_word, edit_line, want_line, cancel_line, ask_line};
+ghost use Rattle.play_head.specs.Giving.{play_line};
+ghost use Rattle.play_head.specs.Playing.{list_word, list_line};
+ghost use Rattle.edl_text.specs.declared.fault.EdlFault.TheVariants as faults;
 
-use render_core::{AskReply, CancelReply, WantReply};
+use edl_text::EdlWhy;
+use render_core::{AskReply, CancelReply, PlayReply, WantReply};
 use script_lang::OutLine;
 use std::alloc::{AllocError, Global};
-use tl_model::{EditRefusal, EditReply, Name};
+use tl_model::{EditRefusal, EditReply, FrameFault, Name, RenderFault};
 
 /// The word for a refusal.
 fn refusal_word(why: EditRefusal) -> &'static str
@@ -77,4 +81,78 @@ pub(crate) fn cancel_line(told: CancelReply) -> OutLine
         CancelReply::Cancelled { count } => OutLine::Cancelled { count },
         CancelReply::PastEnd { len } => OutLine::Past { len },
     }
+}
+
+/// The word for what is wrong with a frame.
+fn fault_word(kind: FrameFault) -> &'static str
+    ensures { result.now ≡ fault_word kind }
+{
+    match kind {
+        FrameFault::Empty => "Empty",
+        FrameFault::Chain => "Chain",
+        FrameFault::Parity { slice: _ } => "Parity",
+        FrameFault::NotKey => "NotKey",
+        FrameFault::Header { slice: _ } => "Header",
+        FrameFault::TableIndex { slice: _ } => "TableIndex",
+        FrameFault::Cover { cell: _ } => "Cover",
+        FrameFault::Symbol { slice: _ } => "Symbol",
+        FrameFault::Overrun { slice: _ } => "Overrun",
+    }
+}
+
+/// The line of frame `n`, which couldn't be rendered.
+fn fault_line(alloc: Global, n: u32, why: RenderFault) -> Result<OutLine, AllocError>
+    ensures { IfOk result (λ line. line ≡ out.Fault n (fault_word why.kind)) }
+{
+    let text = String::from_str(alloc, fault_word(why.kind))?;
+    Ok(OutLine::Fault {
+        n,
+        kind: Name::from_text(text),
+    })
+}
+
+/// The line of frame `n` that was played.
+pub(crate) fn play_line<F>(
+    alloc: Global,
+    n: u32,
+    told: &PlayReply<F>,
+) -> Result<OutLine, AllocError>
+    ensures { IfOk result (λ line. line ≡ play_line n told.now) }
+{
+    match told {
+        PlayReply::Frame(_) => Ok(OutLine::Frame { n }),
+        PlayReply::Fault(why) => fault_line(alloc, n, *why),
+        PlayReply::Pending { recipe: _ } => Ok(OutLine::Pending { n }),
+        PlayReply::PastEnd { len } => Ok(OutLine::Past { len: *len }),
+    }
+}
+
+/// The word for what is wrong with an edit list.
+fn list_word(why: EdlWhy) -> &'static str
+    ensures { result.now ≡ list_word why }
+{
+    match why {
+        EdlWhy::Drop => "Drop",
+        EdlWhy::Speed => "Speed",
+        EdlWhy::Wipe => "Wipe",
+        EdlWhy::Key => "Key",
+        EdlWhy::Unknown => "Unknown",
+        EdlWhy::Timecode => "Timecode",
+        EdlWhy::PairMissing => "PairMissing",
+        EdlWhy::UnknownClip => "UnknownClip",
+        EdlWhy::Span => "Span",
+        EdlWhy::OutsideClip => "OutsideClip",
+        EdlWhy::Overlap => "Overlap",
+    }
+}
+
+/// The line of an edit list that is faulty at its line `n`.
+pub(crate) fn list_line(alloc: Global, n: u32, why: EdlWhy) -> Result<OutLine, AllocError>
+    ensures { IfOk result (λ line. line ≡ list_line (Err (faults.Line n why))) }
+{
+    let text = String::from_str(alloc, list_word(why))?;
+    Ok(OutLine::EdlLine {
+        n,
+        why: Name::from_text(text),
+    })
 }

@@ -9,9 +9,9 @@ use Rattle.play_head.proofs.calls.edit.Goals as goal
 pub returns-in-Ok : goal.returns-in-Ok
 returns-in-Ok g c =
     says g.D.Lib.Media.library g.O.Sink.tells (g.D.Desk.desk c.args.desk.now) (g.D.Desk.desk c.edit.new.self) (g.O.Sink.seen c.args.out.now) (g.O.Sink.seen c.speak_edit.new.out) (act.Edit c.args.edit.now) (of_edit c.in-Ok.told) (edit_line c.in-Ok.told) c.speak_edit.result
-    (hears_enters g.D.Lib.Media.library _ _ _ _ c.in-Ok.ensures) refl c.speak_edit.ensures
+    tt (hears_enters g.D.Lib.Media.library _ _ _ _ c.in-Ok.ensures) refl c.speak_edit.ensures
 
 pub returns-in-Err : goal.returns-in-Err
 returns-in-Err g c =
-    refuses g.D.Lib.Media.library g.O.Sink.tells (g.D.Desk.desk c.args.desk.now) (g.D.Desk.desk c.edit.new.self) (g.O.Sink.seen c.args.out.now) (act.Edit c.args.edit.now) c.in-Err.why c.stop_for.result c.stop_for.ensures
+    refuses g.D.Lib.Media.library g.O.Sink.tells (g.D.Desk.desk c.args.desk.now) (g.D.Desk.desk c.edit.new.self) (g.O.Sink.seen c.args.out.now) (act.Edit c.args.edit.now) c.in-Err.why c.halt_for.result c.halt_for.ensures
     (hears_learns g.D.Lib.Media.library _ _ c.in-Err.ensures.0, c.in-Err.ensures.1)
