@@ -59,11 +59,12 @@ fn carry_begun<M: Media, V: Vault>(
     ending_after(written, ended)
 }
 
-/// Carries out an export that was taken, at this rate in frames a second: the vault's file of its name is begun, written
-/// and ended, and no other file changes.
+/// Carries out an export that was taken, at this rate in frames a second: the vault's file of its name is begun, written and
+/// ended, and no other file changes. It is for the caller to end the export with the ending that is answered.
 ///
-/// The ending is that of the writing. `Sink` also comes where the file's begin failed or, after frames that were all
-/// written, its end; `NoMemory` likewise where memory ran out there. It comes before the export's end is entered.
+/// `Sink` comes where the vault's count of faults rose: at the file's begin, in its frames, or at its end after frames that
+/// were all written. `NoMemory` comes where memory ran out at one of these. A fault of the frames stands, however the file
+/// was ended.
 pub fn carry<M: Media, V: Vault>(
     alloc: Global,
     media: &M,
