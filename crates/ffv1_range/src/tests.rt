@@ -107,7 +107,8 @@ fn reads_symbols_back(rt: HostRuntime) -> Result<(), Fail> {
 
 // The spellings of two values, by the definition: places in the set, and bits.
 fn worked_spellings()
-    ensures minus_five { spelling (negsuc 4) true ≡ (0, false) ∷ (1, true) ∷ (2, true) ∷ (3, false) ∷ (23, false) ∷ (22, true) ∷ (13, true) ∷ [] }
+    ensures minus_five { spelling (negsuc 4) true
+        ≡ (0, false) ∷ (1, true) ∷ (2, true) ∷ (3, false) ∷ (23, false) ∷ (22, true) ∷ (13, true) ∷ [] }
     ensures zero { spelling (pos 0) true ≡ (0, true) ∷ [] }
 {}
 
