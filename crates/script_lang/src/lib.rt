@@ -26,6 +26,3 @@ pub use script::{
 };
 pub use script_reading::read_script;
 pub use writing::write_script;
-
-#[cfg(test)]
-mod tests;
