@@ -43,7 +43,7 @@ unfoldable pub blocks_in : ℕ → List ℕ → Option ℕ → ℕ → ℕ → L
 blocks_in zero bytes track parent time es = []
 blocks_in (suc levels) bytes track parent time es =
     each_block (λ e. blocks_as bytes track time e
-        (blocks_in levels bytes track e.id (time_in bytes time e) (elements_in bytes e)) (kind_in parent e.id)) es
+    (blocks_in levels bytes track e.id (time_in bytes time e) (elements_in bytes e)) (kind_in parent e.id)) es
 
 -- the blocks of an element in a parent, with so many levels of masters in it
 abbrev pub element_blocks : ℕ → List ℕ → Option ℕ → ℕ → ℕ → Element → List Block
