@@ -1,7 +1,7 @@
 use Rattle.std.proofs.Common.{Result, Ok, Err}
 use Rattle.std.specs.Result.{OnErr}
 use Rattle.script_lang.proofs.Spelling.{extends_after}
-use Rattle.script_lang.proofs.printing.put_more.Goals as goal
+use Rattle.script_lang.proofs.words.put_more.Goals as goal
 
 on_err : {T E : Type 0} (P : Type 0) (result : Result T E) → P → OnErr result P
 on_err P (Ok x) fact = tt
