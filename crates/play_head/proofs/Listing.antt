@@ -14,7 +14,8 @@ use Rattle.tl_model.specs.declared.journal.Act.TheVariants as act
 use Rattle.tl_model.specs.declared.segment.Segment.{Segment}
 use Rattle.tl_ports.specs.declared.fault.FetchFault.{FetchFault}
 use Rattle.tl_ports.specs.declared.fault.FetchFault.TheVariants as fetching
-use Rattle.tl_ports.specs.Outside.{FetchHasCause}
+use Rattle.std.specs.Global.{Vec}
+use Rattle.tl_ports.specs.Outside.{AddsFile, IsFetched, FetchHasCause}
 use Rattle.tl_ports.specs.Seen.{StoreSeen, SinkSeen}
 use Rattle.render_core.specs.Calls.{CallOf}
 use Rattle.render_core.specs.Step.{Silent}
@@ -89,6 +90,10 @@ list_line-listed n why.Overlap = refl
 
 pub same_store : (old new : StoreSeen) → new.file ≡ old.file → new.faults ≡ old.faults → new ≡ old
 same_store old new e f = ap (λ (file : List ℕ → Option (List ℕ)). record { file = file; faults = new.faults }) e ∙ ap (λ (n : ℕ). record { file = old.file; faults = n }) f
+
+-- the text of a file that was fetched into nothing
+pub fetched : (tells : Bool) (old new : StoreSeen) (file : List ℕ) (text : Vec ℕ) → AddsFile tells old (list_wanted file) [] text.items → FetchHasCause tells old new (list_wanted file) (Ok tt) → new.file ≡ old.file → FetchesList tells old new file (Ok text)
+fetched tells old new file text h cause files = (same_store old new files cause, subst (IsFetched tells old (list_wanted file)) (sym h.1) h.2)
 
 module _ {M K F : Type 0} (s : Setting M F) where
   nothing_all : (old new : Player M K) → new.screen ≡ old.screen → new.out ≡ old.out → PutsAll s old new no_output
