@@ -117,15 +117,24 @@ unskipped library tells old new out line full.NoMemory h = (h, refl)
 pub skip_refused : {M K F : Type 0} (library : M → Library F) (tells : Bool) (old new : DeskOf M K) (out : SinkSeen) (line : OutLine) (w : Full) (stop : Halt) → stop ≡ halt_for w → Refused library old new (need act.Skip (state_of library new)) w → Skips library tells (place old out) (place new out) (line, Err stop)
 skip_refused library tells old new out line w stop e h = subst (λ (x : Halt). Skips library tells (place old out) (place new out) (line, Err x)) (sym e) (unskipped library tells old new out line w h)
 
+same_count : (a b : ℕ) → b ≡ a → a ≤ b
+same_count a b e = omega (arith, e)
+
+abbrev no_calls : {F : Type 0} → BodyLine → Played F
+no_calls line = record { line = line; list = Err faults.NoMemory; calls = [] }
+
+abbrev pub HasText : {M F : Type 0} → Setting M F → (file text : List ℕ) → Type 0
+HasText s file text = (length text ≤ max_text_bytes) × (IsTrue s.tells.store → s.files file ≡ Some text)
+
+pub has_text : {M F : Type 0} (s : Setting M F) (file text items : List ℕ) → text ≡ items → HasText s file items → HasText s file text
+has_text s file text items e h = subst (HasText s file) (sym e) h
+
 module _ {M K F : Type 0} (s : Setting M F) where
   nothing_all : (old new : Player M K) → new.screen ≡ old.screen → new.out ≡ old.out → PutsAll s old new no_output
   nothing_all old new e f = (same_all s.tells.out old.out new.out f, same_all s.tells.screen old.screen new.screen e)
 
   nothing_some : (old new : Player M K) → new.screen ≡ old.screen → new.out ≡ old.out → PutsSome s old new no_output
   nothing_some old new e f = (same_front s.tells.out old.out new.out [] f, same_front s.tells.screen old.screen new.screen [] e)
-
-  no_calls : BodyLine → Played F
-  no_calls line = record { line = line; list = Err faults.NoMemory; calls = [] }
 
   -- the line stopped before its call
   unbegun : (old new : Player M K) (line : BodyLine) (file : List ℕ) (why : Halt) → line.call ≡ call.Edl file → Hears s.library old.desk new.desk [] → Lasts old new → StopsLine s old new (no_calls line, act.Skip ∷ []) why → PlaysLine s old new line (Err why)
@@ -141,9 +150,6 @@ module _ {M K F : Type 0} (s : Setting M F) where
     },
     lasts,
   )
-
-  same_count : (a b : ℕ) → b ≡ a → a ≤ b
-  same_count a b e = omega (arith, e)
 
   lasts_as : (old new : Player M K) → new.store ≡ old.store → new.screen ≡ old.screen → new.out ≡ old.out → Lasts old new
   lasts_as old new e f g = record {
@@ -171,19 +177,16 @@ module _ {M K F : Type 0} (s : Setting M F) where
   unfetched desk before after screen out line file halt.OutMemory is h = absurd h
   unfetched desk before after screen out line file (halt.JournalFull len owing) is h = absurd h
 
-  abbrev pub HasText : (file text : List ℕ) → Type 0
-  HasText file text = (length text ≤ max_text_bytes) × (IsTrue s.tells.store → s.files file ≡ Some text)
-
   -- it took the timeline's place, or was to
-  pub replaced : (old new : Player M K) (line : BodyLine) (file text : List ℕ) (segments : List Segment) (r : Result Unit Halt) → line.call ≡ call.Edl file → new.store ≡ old.store → new.screen ≡ old.screen → HasText file text → ReadsAs s.clips s.rate text (Ok segments) → SaysCall s.library s.tells.out (place old.desk old.out) (place new.desk new.out) (act.Edit (edits.Replace segments), r) → PlaysLine s old new line r
+  pub replaced : (old new : Player M K) (line : BodyLine) (file text : List ℕ) (segments : List Segment) (r : Result Unit Halt) → line.call ≡ call.Edl file → new.store ≡ old.store → new.screen ≡ old.screen → HasText s file text → ReadsAs s.clips s.rate text (Ok segments) → SaysCall s.library s.tells.out (place old.desk old.out) (place new.desk new.out) (act.Edit (edits.Replace segments), r) → PlaysLine s old new line r
   replaced old new line file text segments r is store screen has reads h =
       acts_line s old new line (call.Edl file) (Ok segments) (act.Edit (edits.Replace segments) ∷ []) r is tt (text, has.0, has.1, reads) refl store
       (says_acts (manner_of s) (scene_of s old) (scene_of s new) (act.Edit (edits.Replace segments)) r tt screen h)
 
-  skip_call : DeskOf M K → CallOf F
+  abbrev skip_call : DeskOf M K → CallOf F
   skip_call d = record { pass = d.fixed.number; act = act.Skip; told = Silent }
 
-  passed : Player M K → BodyLine → EdlFault → Played F
+  abbrev passed : Player M K → BodyLine → EdlFault → Played F
   passed old line fault = record { line = line; list = Err fault; calls = skip_call old.desk ∷ [] }
 
   -- it was passed over, and its line wasn't put whole
@@ -238,7 +241,7 @@ module _ {M K F : Type 0} (s : Setting M F) where
   passed_over old new line file fault (Err (halt.Store why)) is store screen read h = absurd h
   passed_over old new line file fault (Err halt.Screen) is store screen read h = absurd h
 
-  pub skipped : (old new : Player M K) (line : BodyLine) (file text : List ℕ) (fault : EdlFault) (n : ℕ) (w : EdlWhy) (r : Result Unit Halt) → fault ≡ faults.Line n w → line.call ≡ call.Edl file → new.store ≡ old.store → new.screen ≡ old.screen → HasText file text → ReadsAs s.clips s.rate text (Err fault) → Skips s.library s.tells.out (place old.desk old.out) (place new.desk new.out) (list_line (Err (faults.Line n w)), r) → PlaysLine s old new line r
+  pub skipped : (old new : Player M K) (line : BodyLine) (file text : List ℕ) (fault : EdlFault) (n : ℕ) (w : EdlWhy) (r : Result Unit Halt) → fault ≡ faults.Line n w → line.call ≡ call.Edl file → new.store ≡ old.store → new.screen ≡ old.screen → HasText s file text → ReadsAs s.clips s.rate text (Err fault) → Skips s.library s.tells.out (place old.desk old.out) (place new.desk new.out) (list_line (Err (faults.Line n w)), r) → PlaysLine s old new line r
   skipped old new line file text fault n w r e is store screen has reads h =
       passed_over old new line file (faults.Line n w) r is store screen (text, has.0, has.1, subst (λ (f : EdlFault). ReadsAs s.clips s.rate text (Err f)) e reads) h
 
