@@ -25,7 +25,8 @@ pub record IsOpenPiece (p : Piece) : Type 0 where
 abbrev pub open_element : ℕ → Piece → Element
 open_element start p = record (element_of start p) { unknown = true }
 
--- A text that lies at a place begins with this element, and behind it stands the rest. One of unknown size has its content and that rest as `Ends` says.
+-- A text that lies at a place begins with this element, and behind it stands the rest.
+-- One of unknown size has its content and that rest as `Ends` says.
 pub record Begins (Ends : Element → List ℕ → List ℕ → Type 0) (place : ℕ) (text : List ℕ) (e : Element) (rest : List ℕ) : Type 0 where
   pub piece : Piece
   pub spelled : text ≡ spelling piece ++ rest
@@ -61,11 +62,14 @@ AreKnown (gives e later) = (e.unknown ≡ false) × AreKnown later
 abbrev pub BeginsWithOne : List ℕ → ℕ → List ℕ → Type 0
 BeginsWithOne ids place text = (e : Element) × (rest : List ℕ) × Begins EndsWithParent place text e rest × (is_among ids e ≡ true)
 
--- A content that lies at a place ends before elements of these ids, with this rest behind it: it lists none of them; and nothing stands behind it, or it lists elements of known size and nothing more, and the rest begins with one of them.
+-- A content that lies at a place ends before elements of these ids, with this rest behind it: it lists none of them;
+-- and nothing stands behind it, or it lists elements of known size and nothing more, and the rest begins with one of them.
 abbrev pub EndsBefore : List ℕ → ℕ → List ℕ → List ℕ → Type 0
 EndsBefore ids place content rest =
-    (inside : Listing) × Lists EndsWithParent place content inside × ListsNone ids inside × ((rest ≡ []) ⊎ (AreKnown inside × BeginsWithOne ids (place + length content) rest))
+    (inside : Listing) × Lists EndsWithParent place content inside × ListsNone ids inside
+    × ((rest ≡ []) ⊎ (AreKnown inside × BeginsWithOne ids (place + length content) rest))
 
--- An element of unknown size ends before the next that may not stand in it, after RFC 8794 section 6.2. `ids` tells of each id which these are; whoever names them may leave out some of the standard's.
+-- An element of unknown size ends before the next that may not stand in it, after RFC 8794 section 6.2.
+-- `ids` tells of each id which these are; whoever names them may leave out some of the standard's.
 abbrev pub EndsBeforeNext : (ℕ → List ℕ) → Element → List ℕ → List ℕ → Type 0
 EndsBeforeNext ids e content rest = EndsBefore (ids e.id) e.content content rest

@@ -17,15 +17,18 @@ pub fn one_reading()
 /// end before the next element that may not stand in them.
 pub fn one_listing()
     ensures some { (place : ℕ) (text : List ℕ) → (listing : Listing) × Lists EndsWithParent place text listing }
-    ensures one { (place : ℕ) (text : List ℕ) (a b : Listing) → Lists EndsWithParent place text a → Lists EndsWithParent place text b → a ≡ b }
-    ensures some_before { (ids : ℕ → List ℕ) (place : ℕ) (text : List ℕ) → (listing : Listing) × Lists (EndsBeforeNext ids) place text listing }
+    ensures one { (place : ℕ) (text : List ℕ) (a b : Listing)
+        → Lists EndsWithParent place text a → Lists EndsWithParent place text b → a ≡ b }
+    ensures some_before { (ids : ℕ → List ℕ) (place : ℕ) (text : List ℕ)
+        → (listing : Listing) × Lists (EndsBeforeNext ids) place text listing }
     ensures one_before { (ids : ℕ → List ℕ) (place : ℕ) (text : List ℕ) (a b : Listing)
         → Lists (EndsBeforeNext ids) place text a → Lists (EndsBeforeNext ids) place text b → a ≡ b }
 {}
 
 /// Each text has one end before the elements of some ids, wherever it lies: so `Walker::end_before` has one answer.
 pub fn one_end()
-    ensures some { (ids : List ℕ) (place : ℕ) (text : List ℕ) → (content rest : List ℕ) × (text ≡ content ++ rest) × EndsBefore ids place content rest }
+    ensures some { (ids : List ℕ) (place : ℕ) (text : List ℕ)
+        → (content rest : List ℕ) × (text ≡ content ++ rest) × EndsBefore ids place content rest }
     ensures one { (ids : List ℕ) (place : ℕ) (x y v w : List ℕ) → x ++ y ≡ v ++ w
         → EndsBefore ids place x y → EndsBefore ids place v w → length x ≡ length v }
 {}
@@ -39,6 +42,7 @@ pub fn known_is_spelled()
         → Lists EndsWithParent from (between bytes from to) (whole es) → Holds bytes from to es }
     ensures listed_before { (ids : ℕ → List ℕ) (bytes : List ℕ) (from to : ℕ) (es : List Element) → Holds bytes from to es
         → Lists (EndsBeforeNext ids) from (between bytes from to) (whole es) }
-    ensures spelled_before { (ids : ℕ → List ℕ) (bytes : List ℕ) (from to : ℕ) (es : List Element) → AllByRecursion (λ e. e.unknown ≡ false) es
+    ensures spelled_before { (ids : ℕ → List ℕ) (bytes : List ℕ) (from to : ℕ) (es : List Element)
+        → AllByRecursion (λ e. e.unknown ≡ false) es
         → Lists (EndsBeforeNext ids) from (between bytes from to) (whole es) → Holds bytes from to es }
 {}

@@ -12,6 +12,3 @@ pub use laws::{known_is_spelled, one_end, one_listing, one_reading};
 pub use number::unsigned;
 pub use vint::{Size, VintFault, vint_id, vint_size};
 pub use walker::Walker;
-
-#[cfg(test)]
-mod tests;

@@ -126,7 +126,8 @@ impl<'a> Walker<'a> {
     /// stand in it (RFC 8794 section 6.2): before the first of these that the walk gives. Where it gives none
     /// before its end, its first fault or an element of unknown size, that is the walk's end.
     pub fn end_before(mut self, ids: &[u32]) -> u64
-        ensures exact { EndsBefore ids.now self.entry.place (between self.entry.bytes self.entry.place result) (between self.entry.bytes result self.entry.end) }
+        ensures exact { EndsBefore ids.now self.entry.place (between self.entry.bytes self.entry.place result)
+            (between self.entry.bytes result self.entry.end) }
         ensures within { (self.entry.place ≤ result) × (result ≤ self.entry.end) }
     {
         loop {

@@ -11,7 +11,10 @@ use Rattle.edit_desk.specs.Desk.{DeskOf, with_render}
 
 -- A caller with this number has seen the whole journal, and keeps this beside.
 abbrev pub at_board : {M K : Type 0} → (number : ℕ) → K → BoardOf M → DeskOf M K
-at_board number kept b = record { fixed = record { number = number; library = b.library; cache = b.cache; limit = b.limit; kept = kept }; seen = b.journal }
+at_board number kept b = record {
+  fixed = record { number = number; library = b.library; cache = b.cache; limit = b.limit; kept = kept };
+  seen = b.journal;
+}
 
 -- Caller 0 has seen the whole journal.
 abbrev pub desk_of : {M : Type 0} → BoardOf M → DeskOf M (Unit {0})

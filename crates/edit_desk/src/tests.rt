@@ -5,13 +5,11 @@ ghost use Rattle.tl_model.specs.Media.{CanRender};
 ghost use Rattle.render_core.specs.State.{Holds};
 ghost use Rattle.edit_desk.specs.Desk.{state_of};
 
-mod blanks;
-
 use crate::alone::Alone;
 use crate::desk::Desk;
-use blanks::Blanks;
 use render_core::{AskReply, Claim, ClaimReply, Stopper, TakeReply};
 use std::alloc::Global;
+use test_media::Numbers;
 use time_list::ListLane;
 use tl_model::{Edit, EditReply, Ending, Name, Side};
 
@@ -79,9 +77,9 @@ fn export<D: Desk>(desk: &mut D, turns: u32, ending: Ending)
 /// plays, the ask, the take, the end and the stop.
 #[test]
 fn a_session_alone_is_journalled(rt: HostRuntime) {
-    let started: (Alone<Blanks, ListLane>, Stopper) = Alone::start(
+    let started: (Alone<Numbers, ListLane>, Stopper) = Alone::start(
         rt.alloc(),
-        Blanks,
+        Numbers,
         4,
         100,
     ).expect(&rt, "memory");

@@ -1,2 +1,4 @@
 pub mod Knowing
 pub mod Built
+pub mod FormedPart
+pub mod Formed

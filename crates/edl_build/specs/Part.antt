@@ -64,7 +64,8 @@ shown clips e = do
 abbrev pub mix_of : (duration : Option ℕ) → (from : Option Side) → Result (Option Mix) EdlWhy
 mix_of None from = Ok None
 mix_of (Some frames) None = Err why.PairMissing
-mix_of (Some frames) (Some from) = Ok (if frames == 0 then None else Some (record { from = from; done = 0; steps = frames; total = frames }))
+mix_of (Some frames) (Some from) =
+    Ok (if frames == 0 then None else Some (record { from = from; done = 0; steps = frames; total = frames }))
 
 abbrev pub part_of : Event → Side → Option Mix → Part
 part_of e first mix = record {

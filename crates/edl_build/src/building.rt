@@ -1,8 +1,10 @@
 //! Building the segments of an edit list.
 
-ghost use Rattle.std.specs.Prelude.{◌≡◌, ◌≤◌, ◌++◌, ℕ, List, length, option_map, Ok, None};
+ghost use Rattle.std.specs.Prelude.{◌≡◌, ◌≤◌, ◌++◌, ℕ, List, length, option_map, All, IfOk, Ok, None};
 ghost use Rattle.tl_limits.specs.Limits.{max_clips};
 ghost use Rattle.edl_text.specs.List.{at_line, Gives};
+ghost use Rattle.edl_text.specs.Timed.{IsTimed};
+ghost use Rattle.tl_model.specs.Edit.{IsReplacement};
 ghost use Rattle.edl_build.specs.Clip.{clip_from, known_at};
 ghost use Rattle.edl_build.specs.Part.{added};
 ghost use Rattle.edl_build.specs.Build.{parts_from, laid, IsBuilt};
@@ -54,10 +56,11 @@ fn parts_of(alloc: Global, known: &Known<'_>, events: &[Event]) -> Result<Vec<Pa
 
 /// The segments of an edit list over a session's clips. Where it has faults, the first line's in this order: `PairMissing`,
 /// `UnknownClip`, `Span`, `OutsideClip`. Where no line has one of these, `Overlap` at the first event in the order of the record that
-/// begins before the one before it ends.
+/// begins before the one before it ends. The segments of a list that `read_edl` gave may take a timeline's place: each is well formed.
 pub fn build(alloc: Global, edl: &Edl, clips: &Clips) -> Result<Segments, EdlFault>
     requires { length clips.now ≤ max_clips }
-    ensures { IsBuilt clips.now edl.now.events result }
+    ensures exact { IsBuilt clips.now edl.now.events result }
+    ensures formed { All IsTimed edl.now.events → IfOk result (All IsReplacement) }
 {
     let known = known_of(alloc, clips)?;
     let mut parts = parts_of(alloc, &known, edl.events.as_slice())?;

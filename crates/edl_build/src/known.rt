@@ -15,7 +15,8 @@ pub type Known<'a> = HashMap<&'a str, (u32, u32)>;
 
 /// Keeps a clip where no earlier one has its name.
 fn put_clip<'a>(known: &mut Known<'a>, name: &'a str, clip: (u32, u32)) -> Result<(), AllocError>
-    ensures { OnOk result ((other : List ℕ) → known_at known.new other ≡ option_or (known_at known.old other) (if bytes_eq name.now other then Some clip else None)) }
+    ensures { OnOk result ((other : List ℕ) → known_at known.new other
+        ≡ option_or (known_at known.old other) (if bytes_eq name.now other then Some clip else None)) }
 {
     if !known.contains_key(name) {
         known.insert(name, clip)?;

@@ -7,6 +7,3 @@ mod order;
 mod part;
 
 pub use building::build;
-
-#[cfg(test)]
-mod tests;

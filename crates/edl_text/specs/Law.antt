@@ -67,4 +67,5 @@ pub record IsSameList (a b : Edl) : Type 0 where
 
 -- What is written is read back, but for line numbers.
 abbrev pub ReadBack : Type 0
-ReadBack = (rate : ℕ) (l : Edl) → IsRate rate → IsWritable rate l → (list : Edl) × (edl rate (list_text rate l) ≡ Ok list) × IsSameList list l
+ReadBack = (rate : ℕ) (l : Edl) → IsRate rate → IsWritable rate l
+    → (list : Edl) × (edl rate (list_text rate l) ≡ Ok list) × IsSameList list l

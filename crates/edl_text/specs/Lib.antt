@@ -4,3 +4,4 @@ pub mod List
 pub mod Names
 pub mod Writing
 pub mod Law
+pub mod Timed

@@ -72,7 +72,8 @@ edit_of rate [] = Err why.Unknown
 
 -- The channels `V` and `B` carry video, and those that end with `/V`.
 abbrev pub is_video : List ℕ → Bool
-is_video channel = (bytes_eq channel (codes "V") || bytes_eq channel (codes "B")) || bytes_eq (drop (length channel - 2) channel) (codes "/V")
+is_video channel =
+    (bytes_eq channel (codes "V") || bytes_eq channel (codes "B")) || bytes_eq (drop (length channel - 2) channel) (codes "/V")
 
 abbrev pub event_row : (video : Bool) (number : ℕ) (reel : List ℕ) → Edit → Said
 event_row true number reel edit = Video number reel edit

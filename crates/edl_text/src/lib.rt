@@ -18,6 +18,3 @@ pub use label::Text;
 pub use law::lists_read_back;
 pub use reading::read_edl;
 pub use writing::write_edl;
-
-#[cfg(test)]
-mod tests;

@@ -179,7 +179,8 @@ fn marked_row<'a>(rate: u32, line: &[u8], words: &[&'a [u8]]) -> Result<Row<'a>,
 
 /// What follows a keyword that the line begins with, trimmed.
 fn rest_of<'a>(keyword: &[u8], line: &'a [u8]) -> Option<&'a [u8]>
-    ensures { MatchOption result (begins line.now keyword.now ≡ false) (λ x. (begins line.now keyword.now ≡ true) × (x.now ≡ rest_of keyword.now line.now)) }
+    ensures { MatchOption result (begins line.now keyword.now ≡ false)
+        (λ x. (begins line.now keyword.now ≡ true) × (x.now ≡ rest_of keyword.now line.now)) }
 {
     match line.strip_prefix(keyword) {
         Some(rest) => Some(trim(Blanks::SpaceTab, rest)),

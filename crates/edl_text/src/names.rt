@@ -49,7 +49,8 @@ pub type Names<'a> = HashMap<u32, &'a str>;
 
 /// Keeps a name where its number has none yet.
 fn put_name<'a>(names: &mut Names<'a>, number: u32, text: &'a str) -> Result<(), AllocError>
-    ensures { OnOk result ((other : ℕ) → name_at names.new other ≡ option_or (name_at names.old other) (if number == other then Some text.now else None)) }
+    ensures { OnOk result ((other : ℕ) → name_at names.new other
+        ≡ option_or (name_at names.old other) (if number == other then Some text.now else None)) }
 {
     if !names.contains_key(&number) {
         names.insert(number, text)?;
@@ -63,7 +64,8 @@ fn keep_name<'a>(
     above: Option<u32>,
     text: Option<&'a str>,
 ) -> Result<(), AllocError>
-    ensures { OnOk result ((other : ℕ) → name_at names.new other ≡ option_or (name_at names.old other) (lookup (λ number. number == other) (with_name above (option_map (λ x. x.now) text.entry) []))) }
+    ensures { OnOk result ((other : ℕ) → name_at names.new other ≡ option_or (name_at names.old other)
+        (lookup (λ number. number == other) (with_name above (option_map (λ x. x.now) text.entry) []))) }
 {
     if let (Some(number), Some(text)) = (above, text) {
         put_name(names, number, text)?;

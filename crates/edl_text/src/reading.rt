@@ -1,10 +1,11 @@
 //! Reading an edit list.
 
-ghost use Rattle.std.specs.Prelude.{◌≡◌, ◌<◌, ◌^◌, map, length, vec_len, IfOk, Ok};
+ghost use Rattle.std.specs.Prelude.{◌≡◌, ◌<◌, ◌^◌, map, length, vec_len, All, IfOk, Ok};
 ghost use Rattle.std.specs.Str.Lines.{lines};
 ghost use Rattle.tl_limits.specs.Limits.{IsRate};
 ghost use Rattle.edl_text.specs.Row.{said};
 ghost use Rattle.edl_text.specs.Line.{row_of};
+ghost use Rattle.edl_text.specs.Timed.{IsTimed};
 ghost use Rattle.edl_text.specs.List.{at_line, said_from, edl, Gives};
 
 use crate::assembly::events_of;
@@ -48,12 +49,14 @@ fn rows_of<'a>(alloc: Global, rate: u32, text: &'a [u8]) -> Result<Vec<Row<'a>>,
     Ok(rows)
 }
 
-/// The edit list that a text is at a rate, or its first faulty line.
+/// The edit list that a text is at a rate, or its first faulty line. Each frame number of a list that was read is below 2^25, and each
+/// duration is below 1,000.
 #[tactic(auto, unfolding(crate::specs::List::edl))]
 pub fn read_edl(alloc: Global, text: &[u8], rate: u32) -> Result<Edl, EdlFault>
     requires rate { IsRate rate }
     requires lines { length (lines text.now) < 2 ^ 32 }
-    ensures { Gives (λ list. list) result (edl rate text.now) }
+    ensures exact { Gives (λ list. list) result (edl rate text.now) }
+    ensures timed { IfOk result (λ list. All IsTimed list.events) }
 {
     let rows = rows_of(alloc, rate, text)?;
     let title = Text::copy_of(alloc, title_of(&rows))?;

@@ -20,6 +20,3 @@ pub use encode::encode_frame;
 pub use fault::DecodeFault;
 pub use law::one_decoding;
 pub use written::{writes_one_packet, written_is_read_back};
-
-#[cfg(test)]
-mod tests;

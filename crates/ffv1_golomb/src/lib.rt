@@ -15,6 +15,3 @@ pub use law::{finds_bits, packs_bits, reads_slices};
 pub use read_slice::decode_rice_slice;
 pub use scratch::RiceScratch;
 pub use write_part::encode_rice_slice;
-
-#[cfg(test)]
-mod tests;

@@ -9,6 +9,3 @@ mod same;
 pub use blend::blend_row;
 pub use residual::residual_row;
 pub use same::same_row;
-
-#[cfg(test)]
-mod tests;

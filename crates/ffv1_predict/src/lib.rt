@@ -10,6 +10,3 @@ mod near;
 pub use law::coded_is_restored;
 pub use left::Left;
 pub use near::Near;
-
-#[cfg(test)]
-mod tests;

@@ -10,7 +10,8 @@ number_of bytes = fold (λ n b. 256 * n + b) 0 bytes
 
 -- The bytes that were put and the kept low stand together for the one number.
 abbrev pub writing_at : List ℕ → List ℕ → Cursor → Writing
-writing_at table bytes at = record { table = table; range = at.range; low = 65536 * number_of (take at.used bytes) + at.low; count = at.used + 2 }
+writing_at table bytes at =
+    record { table = table; range = at.range; low = 65536 * number_of (take at.used bytes) + at.low; count = at.used + 2 }
 
 -- A range has 9 to 16 bits, the kept low has 17 with its carry, and the number and its range don't pass the first range.
 pub record IsSound (bytes : List ℕ) (at : Cursor) : Type 0 where

@@ -41,7 +41,8 @@ ReadsInMode true table coded bytes = (more : List ℕ) → ((k : ℕ) → slice_
 ReadsInMode false table coded bytes = ReadsBack table bytes coded (length bytes + 1)
 
 abbrev pub IsReadBack : Bool → Writing → List ℕ → Type 0
-IsReadBack sentinel w bytes = (coded : List (ℕ × Bool)) → AreStates coded → w ≡ written w.table coded → ReadsInMode sentinel w.table coded bytes
+IsReadBack sentinel w bytes = (coded : List (ℕ × Bool)) → AreStates coded → w ≡ written w.table coded
+    → ReadsInMode sentinel w.table coded bytes
 
 -- what has a spelling: a magnitude below 2 ^ 32, and 0 or more where it is unsigned
 abbrev pub IsSpelled : ℤ → Bool → Type 0
@@ -49,8 +50,10 @@ IsSpelled value signed = (nat_abs value < 2 ^ 32) × (signed ≡ false → is_ne
 
 -- A symbol is read as a value exactly where the value's spelling is read, and is too long exactly where 32 bits 1 are.
 pub record ReadsSymbols : Type 0 where
-  pub value : (old new : Source) (value : ℤ) (signed : Bool) → IsSpelled value signed → Reads old (spelling value signed) new → symbol_at old signed ≡ (Some value, new)
-  pub spelled : (old new : Source) (value : ℤ) (signed : Bool) → symbol_at old signed ≡ (Some value, new) → IsSpelled value signed × Reads old (spelling value signed) new
+  pub value : (old new : Source) (value : ℤ) (signed : Bool) → IsSpelled value signed → Reads old (spelling value signed) new
+      → symbol_at old signed ≡ (Some value, new)
+  pub spelled : (old new : Source) (value : ℤ) (signed : Bool) → symbol_at old signed ≡ (Some value, new)
+      → IsSpelled value signed × Reads old (spelling value signed) new
   pub none : (old new : Source) (signed : Bool) → Reads old too_long new → symbol_at old signed ≡ (None, new)
   pub too_long : (old new : Source) (signed : Bool) → symbol_at old signed ≡ (None, new) → Reads old too_long new
 
@@ -63,5 +66,7 @@ CodesInTurn = (reading : Reading) (set : List ℕ) (bits : List (ℕ × Bool))
 
 -- No spelling begins another, nor does one begin as a symbol that is too long.
 pub record NoPrefix : Type 0 where
-  pub values : (value other : ℤ) (signed : Bool) (more rest : List (ℕ × Bool)) → IsSpelled value signed → IsSpelled other signed → spelling value signed ++ more ≡ spelling other signed ++ rest → value ≡ other
-  pub too_long : (value : ℤ) (signed : Bool) (more rest : List (ℕ × Bool)) → IsSpelled value signed → spelling value signed ++ more ≡ too_long ++ rest → ⊥
+  pub values : (value other : ℤ) (signed : Bool) (more rest : List (ℕ × Bool)) → IsSpelled value signed → IsSpelled other signed
+      → spelling value signed ++ more ≡ spelling other signed ++ rest → value ≡ other
+  pub too_long : (value : ℤ) (signed : Bool) (more rest : List (ℕ × Bool)) → IsSpelled value signed
+      → spelling value signed ++ more ≡ too_long ++ rest → ⊥

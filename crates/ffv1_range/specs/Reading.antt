@@ -39,7 +39,12 @@ narrowed p state =
 unfoldable pub renewed : Reading → Reading
 renewed p =
     if nat_lt p.range 256
-    then record p { range = 256 * p.range; low = 256 * p.low + slice_index p.rest 0; taken = min (p.taken + 1) (2 ^ 64 - 1); rest = drop 1 p.rest }
+    then record p {
+      range = 256 * p.range;
+      low = 256 * p.low + slice_index p.rest 0;
+      taken = min (p.taken + 1) (2 ^ 64 - 1);
+      rest = drop 1 p.rest;
+    }
     else p
 
 -- the reader after the bit that a state reads

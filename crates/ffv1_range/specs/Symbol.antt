@@ -56,7 +56,10 @@ unfoldable pub bit_at_place : Source → ℕ → Bool
 bit_at_place s place = bit_of s.reading (slice_index s.set place)
 
 unfoldable pub after_place : Source → ℕ → Source
-after_place s place = record { reading = after_bit s.reading (slice_index s.set place); set = moved s.reading.table s.set place (bit_at_place s place) }
+after_place s place = record {
+  reading = after_bit s.reading (slice_index s.set place);
+  set = moved s.reading.table s.set place (bit_at_place s place);
+}
 
 -- The bits that are read at these places are these, and leave `new`.
 abbrev pub Reads : Source → List (ℕ × Bool) → Source → Type 0
@@ -88,8 +91,10 @@ magnitude_at (suc i) a s = magnitude_at i (2 * a + (if bit_at_place s (22 + min 
 
 abbrev pub signed_at : Bool → ℕ → ℕ × Source → Option ℤ × Source
 signed_at false exponent read = (Some (pos read.0), read.1)
-signed_at true exponent read =
-    (Some (if bit_at_place read.1 (11 + min exponent 10) then neg_ℤ (pos read.0) else pos read.0), after_place read.1 (11 + min exponent 10))
+signed_at true exponent read = (
+  Some (if bit_at_place read.1 (11 + min exponent 10) then neg_ℤ (pos read.0) else pos read.0),
+  after_place read.1 (11 + min exponent 10),
+)
 
 abbrev pub value_at : Bool → Option ℕ × Source → Option ℤ × Source
 value_at signed (None, s) = (None, s)

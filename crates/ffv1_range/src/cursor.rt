@@ -100,7 +100,8 @@ pub(crate) fn write_bit(bytes: &mut [u8], at: Cursor, state: u8, bit: bool) -> C
 pub(crate) fn put_sentinel(bytes: &mut [u8], at: Cursor, sentinel: bool) -> Cursor
     requires sound { IsSound bytes.old at }
     requires room { at.used < length bytes.old }
-    ensures at { (table : List ℕ) → writing_at table bytes.new result ≡ (if sentinel then with_sentinel (writing_at table bytes.old at) else writing_at table bytes.old at) }
+    ensures at { (table : List ℕ) → writing_at table bytes.new result
+        ≡ (if sentinel then with_sentinel (writing_at table bytes.old at) else writing_at table bytes.old at) }
     ensures sound { IsSound bytes.new result }
     ensures used { result.used ≤ at.used + 1 }
 {

@@ -19,6 +19,3 @@ pub use reader::{RangeReader, TooLong};
 pub use states::States;
 pub use transition::{DEFAULT_TRANSITION, Transition};
 pub use writer::RangeWriter;
-
-#[cfg(test)]
-mod tests;

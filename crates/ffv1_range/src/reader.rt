@@ -118,7 +118,8 @@ impl<'a> RangeReader<'a> {
     pub fn symbol(&mut self, set: &mut States, signed: bool) -> Result<i64, TooLong>
         requires { AllKept self.old.table set.old }
         ensures symbol { symbol_at (source self.old set.old) signed ≡ (result_ok result, source self.new set.new) }
-        ensures ok { IfOk result (λ value. IsSpelled value signed × Reads (source self.old set.old) (spelling value signed) (source self.new set.new)) }
+        ensures ok { IfOk result (λ value. IsSpelled value signed
+            × Reads (source self.old set.old) (spelling value signed) (source self.new set.new)) }
         ensures err { OnErr result (Reads (source self.old set.old) too_long (source self.new set.new)) }
         ensures table { self.new.table ≡ self.old.table }
         ensures kept { AllKept self.new.table set.new }
@@ -248,7 +249,8 @@ fn exponent_from(
 ) -> Option<u32>
     requires sound { IsSound bytes.now at.old }
     requires kept { AllKept table.now states.old }
-    ensures exponent { exponent_at 32 0 (source_at table.now bytes.now at.old states.old) ≡ (result, source_at table.now bytes.now at.new states.new) }
+    ensures exponent { exponent_at 32 0 (source_at table.now bytes.now at.old states.old)
+        ≡ (result, source_at table.now bytes.now at.new states.new) }
     ensures small { IfSome result (λ exponent. exponent < 32) }
     ensures sound { IsSound bytes.now at.new }
     ensures kept { AllKept table.now states.new }
@@ -273,7 +275,8 @@ fn magnitude_from(
     requires exponent { exponent < 32 }
     requires sound { IsSound bytes.now at.old }
     requires kept { AllKept table.now states.old }
-    ensures magnitude { magnitude_at exponent 1 (source_at table.now bytes.now at.old states.old) ≡ (result, source_at table.now bytes.now at.new states.new) }
+    ensures magnitude { magnitude_at exponent 1 (source_at table.now bytes.now at.old states.old)
+        ≡ (result, source_at table.now bytes.now at.new states.new) }
     ensures sound { IsSound bytes.now at.new }
     ensures kept { AllKept table.now states.new }
 {
@@ -297,7 +300,8 @@ fn symbol_from(
 ) -> Option<i64>
     requires sound { IsSound bytes.now at.old }
     requires kept { AllKept table.now states.old }
-    ensures symbol { symbol_at (source_at table.now bytes.now at.old states.old) signed ≡ (result, source_at table.now bytes.now at.new states.new) }
+    ensures symbol { symbol_at (source_at table.now bytes.now at.old states.old) signed
+        ≡ (result, source_at table.now bytes.now at.new states.new) }
     ensures sound { IsSound bytes.now at.new }
     ensures kept { AllKept table.now states.new }
 {

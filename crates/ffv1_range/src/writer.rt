@@ -204,7 +204,8 @@ fn symbol_into(
     requires sound { IsSound bytes.old at.old }
     requires room { at.old.used + SYMBOL_BITS ≤ length bytes.old }
     requires kept { AllKept table.now states.old }
-    ensures at { writing_at table.now bytes.new at.new ≡ put_all (writing_at table.now bytes.old at.old) (with_states table.now states.old (spelling value signed)) }
+    ensures at { writing_at table.now bytes.new at.new ≡ put_all (writing_at table.now bytes.old at.old)
+        (with_states table.now states.old (spelling value signed)) }
     ensures states { states.new ≡ set_after table.now states.old (spelling value signed) }
     ensures sound { IsSound bytes.new at.new }
     ensures kept { AllKept table.now states.new }
@@ -258,7 +259,8 @@ fn magnitude_into(
     requires sound { IsSound bytes.old at.old }
     requires room { at.old.used + 2 * exponent < length bytes.old }
     requires kept { AllKept table.now states.old }
-    ensures at { writing_at table.now bytes.new at.new ≡ put_all (writing_at table.now bytes.old at.old) (with_states table.now states.old (magnitude_bits magnitude)) }
+    ensures at { writing_at table.now bytes.new at.new ≡ put_all (writing_at table.now bytes.old at.old)
+        (with_states table.now states.old (magnitude_bits magnitude)) }
     ensures states { states.new ≡ set_after table.now states.old (magnitude_bits magnitude) }
     ensures sound { IsSound bytes.new at.new }
     ensures used { at.new.used ≤ at.old.used + 2 * exponent + 1 }
@@ -281,7 +283,8 @@ fn exponent_into(
     requires sound { IsSound bytes.old at.old }
     requires room { at.old.used + exponent < length bytes.old }
     requires kept { AllKept table.now states.old }
-    ensures at { writing_at table.now bytes.new at.new ≡ put_all (writing_at table.now bytes.old at.old) (with_states table.now states.old (ones 0 exponent ++ (1 + min exponent 9, false) ∷ [])) }
+    ensures at { writing_at table.now bytes.new at.new ≡ put_all (writing_at table.now bytes.old at.old)
+        (with_states table.now states.old (ones 0 exponent ++ (1 + min exponent 9, false) ∷ [])) }
     ensures states { states.new ≡ set_after table.now states.old (ones 0 exponent ++ (1 + min exponent 9, false) ∷ []) }
     ensures sound { IsSound bytes.new at.new }
     ensures used { at.new.used ≤ at.old.used + exponent + 1 }
@@ -314,7 +317,8 @@ fn low_bits_into(
     requires sound { IsSound bytes.old at.old }
     requires room { at.old.used + exponent ≤ length bytes.old }
     requires kept { AllKept table.now states.old }
-    ensures at { writing_at table.now bytes.new at.new ≡ put_all (writing_at table.now bytes.old at.old) (with_states table.now states.old (low_bits exponent magnitude)) }
+    ensures at { writing_at table.now bytes.new at.new ≡ put_all (writing_at table.now bytes.old at.old)
+        (with_states table.now states.old (low_bits exponent magnitude)) }
     ensures states { states.new ≡ set_after table.now states.old (low_bits exponent magnitude) }
     ensures sound { IsSound bytes.new at.new }
     ensures used { at.new.used ≤ at.old.used + exponent }

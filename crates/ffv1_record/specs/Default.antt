@@ -22,4 +22,5 @@ abbrev pub default_runs : List (List ℕ)
 default_runs = fine_runs ∷ fine_runs ∷ fine_runs ∷ one_run ∷ one_run ∷ []
 
 abbrev pub default_parameters : Coder → Chroma → ℕ → ℕ → Parameters
-default_parameters coder chroma columns rows = parameters_of (coder_type_of coder) DEFAULT_TRANSITION chroma columns rows (default_runs ∷ []) true 1
+default_parameters coder chroma columns rows =
+    parameters_of (coder_type_of coder) DEFAULT_TRANSITION chroma columns rows (default_runs ∷ []) true 1

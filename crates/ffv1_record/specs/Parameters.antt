@@ -22,8 +22,17 @@ pub record Parameters : Type 0 where
 
 -- a record of samples of 8 bits, by the runs of its sets
 abbrev pub parameters_of : ℕ → List ℕ → Chroma → ℕ → ℕ → List (List (List ℕ)) → Bool → ℕ → Parameters
-parameters_of coder_type transition chroma columns rows sets ec intra =
-    record { coder_type = coder_type; transition = transition; bits_per_sample = 8; chroma = chroma; columns = columns; rows = rows; sets = map set_of sets; ec = ec; intra = intra }
+parameters_of coder_type transition chroma columns rows sets ec intra = record {
+  coder_type = coder_type;
+  transition = transition;
+  bits_per_sample = 8;
+  chroma = chroma;
+  columns = columns;
+  rows = rows;
+  sets = map set_of sets;
+  ec = ec;
+  intra = intra;
+}
 
 -- the runs of the sets
 abbrev pub runs_of : Parameters → List (List (List ℕ))

@@ -63,7 +63,8 @@ coder_at s = do
 unfoldable pub entry_at : ℕ → Source → Result (ℕ × Source) RecordFault
 entry_at default s = do
   delta ← signed_at s
-  let entry = pos default +ℤ delta.0 in if int_le (pos 1) entry && int_le entry (pos 255) then Ok (nat_abs entry, delta.1) else Err faults.Transition
+  let entry = pos default +ℤ delta.0 in
+      if int_le (pos 1) entry && int_le entry (pos 255) then Ok (nat_abs entry, delta.1) else Err faults.Transition
 
 unfoldable pub entries_at : List ℕ → Source → Result (List ℕ × Source) RecordFault
 entries_at [] s = Ok ([], s)

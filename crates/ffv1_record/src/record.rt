@@ -274,7 +274,8 @@ impl Record {
 // The sum of one entry of each table of a set is one of the set's contexts.
 fn are_lawful(sets: &[TableSet])
     requires { AreSets sets.now }
-    ensures { (set : ℕ) → set < length sets.now → AreContexts (set_of (slice_index_or sets.now set [])).tables (set_of (slice_index_or sets.now set [])).context_count }
+    ensures { (set : ℕ) → set < length sets.now
+        → AreContexts (set_of (slice_index_or sets.now set [])).tables (set_of (slice_index_or sets.now set [])).context_count }
 {}
 
 /// Puts the parity of bytes behind them.

@@ -17,6 +17,3 @@ pub use reader::BitReader;
 pub use runs::{Mode, RunReader, Step, raise};
 pub use state::{OutOfRange, VlcState};
 pub use writer::BitWriter;
-
-#[cfg(test)]
-mod tests;

@@ -68,7 +68,8 @@ impl VlcState {
     /// 127; the state and the reader then stay as they were.
     #[inline]
     pub fn read(&mut self, bits: &mut BitReader) -> Result<i32, OutOfRange>
-        ensures ok { IfOk result (λ d. difference_at self.old bits.old ≡ Some (record { value = d; state = self.new; reading = bits.new })) }
+        ensures ok { IfOk result (λ d. difference_at self.old bits.old
+            ≡ Some (record { value = d; state = self.new; reading = bits.new })) }
         ensures err { OnErr result (difference_at self.old bits.old ≡ None) }
         ensures state { OnErr result (self.new ≡ self.old) }
         ensures reader { OnErr result (bits.new ≡ bits.old) }

@@ -109,7 +109,8 @@ fn next_word(
     requires count { count ≤ 32 }
     requires number { number < 2 ^ count }
     requires room { 0 < free → vec_len bytes.old + 8 ≤ vec_capacity bytes.old }
-    ensures ok { IfOk result (λ left. bits_written bytes.new.items number left ≡ bits_written bytes.old.items word free ++ bits_of count number) }
+    ensures ok { IfOk result (λ left. bits_written bytes.new.items number left
+        ≡ bits_written bytes.old.items word free ++ bits_of count number) }
     ensures left { IfOk result (λ left. left ≤ 64) }
     ensures room { OnOk result (vec_len bytes.new + 8 ≤ vec_capacity bytes.new) }
     ensures items { OnErr result (bytes.new.items ≡ bytes.old.items) }

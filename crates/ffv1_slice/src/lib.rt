@@ -22,6 +22,3 @@ pub use header::{Grid, Header, read_header};
 pub use header_writer::write_header;
 pub use range_slice::{Quantization, decode_slice};
 pub use scratch::Scratch;
-
-#[cfg(test)]
-mod tests;

@@ -18,7 +18,9 @@ abbrev pub block_of : Option ℕ → ℕ → Element → Option Head → List Bl
 block_of None time e head = []
 block_of (Some track) time e None = []
 block_of (Some track) time e (Some head) =
-    if head.track == track then record { at = e.start; time = time + head.time; laced = not (bit_and head.flags 6 == 0); packet = head.packet } ∷ [] else []
+    if head.track == track
+    then record { at = e.start; time = time + head.time; laced = not (bit_and head.flags 6 == 0); packet = head.packet } ∷ []
+    else []
 
 -- the blocks of each of these elements, in order
 unfoldable pub each_block : (Element → List Block) → Listing → List Block
@@ -40,7 +42,8 @@ blocks_as bytes track time e inside other = []
 unfoldable pub blocks_in : ℕ → List ℕ → Option ℕ → ℕ → ℕ → Listing → List Block
 blocks_in zero bytes track parent time es = []
 blocks_in (suc levels) bytes track parent time es =
-    each_block (λ e. blocks_as bytes track time e (blocks_in levels bytes track e.id (time_in bytes time e) (elements_in bytes e)) (kind_in parent e.id)) es
+    each_block (λ e. blocks_as bytes track time e
+    (blocks_in levels bytes track e.id (time_in bytes time e) (elements_in bytes e)) (kind_in parent e.id)) es
 
 -- the blocks of an element in a parent, with so many levels of masters in it
 abbrev pub element_blocks : ℕ → List ℕ → Option ℕ → ℕ → ℕ → Element → List Block

@@ -52,7 +52,12 @@ abbrev pub packed : Track → List Block → Option ClipFault → Result ClipInd
 packed track blocks (Some fault) = Err fault
 packed track [] None = Err faults.NoFrames
 packed track (block ∷ blocks) None =
-    Ok (record { width = track.width; height = track.height; private = track.private; packets = map (λ block. block.packet) (block ∷ blocks) })
+    Ok (record {
+      width = track.width;
+      height = track.height;
+      private = track.private;
+      packets = map (λ block. block.packet) (block ∷ blocks);
+    })
 
 -- the clip of a track with these blocks
 unfoldable pub clip_with : Track → List Block → Result ClipIndex ClipFault

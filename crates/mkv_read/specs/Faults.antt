@@ -24,7 +24,12 @@ behind track place [] = None
 behind track place (high ∷ []) = None
 behind track place (high ∷ low ∷ []) = None
 behind track place (high ∷ low ∷ flags ∷ packet) =
-    Some (record { track = track; time = signed_plus_32768 high low; flags = flags; packet = record { from = place + 3; len = length packet } })
+    Some (record {
+      track = track;
+      time = signed_plus_32768 high low;
+      flags = flags;
+      packet = record { from = place + 3; len = length packet };
+    })
 
 -- a block's head, by what is read at its front as a size is
 abbrev pub of_size : ℕ → List ℕ → Result (Size × ℕ) VintFault → Option Head

@@ -111,7 +111,8 @@ pub record IsBlock (bytes : List ℕ) (number timestamp : ℕ) (e : Element) (bl
 abbrev pub AreBlocks : List ℕ → ℕ → ℕ → List Element → List Block → Type 0
 AreBlocks bytes number timestamp [] blocks = blocks ≡ []
 AreBlocks bytes number timestamp (e ∷ es) [] = ⊥
-AreBlocks bytes number timestamp (e ∷ es) (block ∷ blocks) = IsBlock bytes number timestamp e block × AreBlocks bytes number timestamp es blocks
+AreBlocks bytes number timestamp (e ∷ es) (block ∷ blocks) =
+    IsBlock bytes number timestamp e block × AreBlocks bytes number timestamp es blocks
 
 -- a Cluster with one Timestamp, which stands before its SimpleBlocks, and no BlockGroup (RFC 9559 section 5.1.3)
 pub record IsCluster (bytes : List ℕ) (number : ℕ) (cluster : Element) (blocks : List Block) : Type 0 where

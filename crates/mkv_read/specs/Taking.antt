@@ -90,7 +90,8 @@ number_in (Err fault) = None
 unfoldable pub read : List ℕ → Result ClipIndex ClipFault
 read bytes =
     if begins_with EBML (elements bytes 0 (length bytes)) then (do
-      taken ← outcome (fault_in depth bytes FILE (file_of bytes)) (blocks_in depth bytes (number_in (track_of bytes (segment_of bytes))) FILE 0 (file_of bytes)) nothing_taken
+      taken ← outcome (fault_in depth bytes FILE (file_of bytes))
+          (blocks_in depth bytes (number_in (track_of bytes (segment_of bytes))) FILE 0 (file_of bytes)) nothing_taken
       matroska ← require (is_matroska bytes) faults.DocType
       track ← track_of bytes (segment_of bytes)
       finished track taken) else Err (faults.Ebml 0)

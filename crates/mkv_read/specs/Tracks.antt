@@ -22,7 +22,8 @@ abbrev pub private_place : Option Element → Place
 private_place None = record { from = 0; len = 0 }
 private_place (Some private) = record { from = private.content; len = private.end - private.content }
 
--- How many bytes follow the 40 of a BITMAPINFOHEADER, whose biSize is this, in so many bytes: up to biSize, where it is more than 40, else all.
+-- How many bytes follow the 40 of a BITMAPINFOHEADER, whose biSize is this, in so many bytes:
+-- up to biSize, where it is more than 40, else all.
 abbrev pub len_behind : ℕ → ℕ → ℕ
 len_behind size len = if nat_lt 40 size then min size len - 40 else len - 40
 
@@ -85,7 +86,12 @@ track_with bytes entry None = Err faults.Codec
 track_with bytes entry (Some private) =
     let es = elements_in bytes entry in
     let video = first VIDEO es in
-    track_within (record { number = number_of bytes (first TRACK_NUMBER es); width = side_of bytes PIXEL_WIDTH video; height = side_of bytes PIXEL_HEIGHT video; private = private }) (is_some (first CONTENT_ENCODINGS es))
+    track_within (record {
+      number = number_of bytes (first TRACK_NUMBER es);
+      width = side_of bytes PIXEL_WIDTH video;
+      height = side_of bytes PIXEL_HEIGHT video;
+      private = private;
+    }) (is_some (first CONTENT_ENCODINGS es))
 
 -- the track of an entry that is FFV1, if there is one; else there may be one of another codec
 abbrev pub track_among : List ℕ → Option Element → Option Element → Result Track ClipFault

@@ -14,6 +14,3 @@ pub use clip::{ClipIndex, MAX_FRAMES, MAX_PRIVATE, MAX_SIDE, Place, Places};
 pub use fault::{ClipFault, Which};
 pub use file::read_clip;
 pub use laws::{depth_is_enough, elements_are_listed, one_clip, plain_is_whole};
-
-#[cfg(test)]
-mod tests;

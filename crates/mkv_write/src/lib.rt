@@ -14,6 +14,3 @@ mod writer;
 pub use fault::WriteFault;
 pub use law::written_is_read_back;
 pub use writer::{MkvWriter, put_is_prefix};
-
-#[cfg(test)]
-mod tests;

@@ -12,6 +12,3 @@ pub use law::clone_and_eq_are_exact;
 pub use picture::Picture;
 pub use shape::{Chroma, Shape};
 pub use shift::{shifted_down, shifted_up};
-
-#[cfg(test)]
-mod tests;

@@ -28,7 +28,9 @@ use Rattle.play_head.specs.PlayingLine.{Output, no_output, texts}
 use Rattle.play_head.specs.Putting.{IsFront, GotAll, GotFront}
 use Rattle.play_head.specs.Saying.{Speaks, IsPlain, SaysCall, place}
 use Rattle.play_head.specs.Told.{line_of, frame_of}
+use Rattle.play_head.specs.Roll.{IsRollCall}
 use Rattle.play_head.specs.Working.{HearsAct}
+use Rattle.play_head.proofs.Desks.{hears_nothing}
 use Rattle.play_head.proofs.Pieces.{got_nothing, front_nothing, all_then}
 
 -- ---- fronts
@@ -114,6 +116,54 @@ lines-append m lib calls more =
 rows-append : {M F : Type 0} (m : Manner M F) (lib : Library F) (calls more : List (CallOf F)) → (calls_output m lib (calls ++ more)).rows ≡ (calls_output m lib calls).rows ++ (calls_output m lib more).rows
 rows-append {M} {F} m lib calls more = flat_map-append (λ (call : CallOf F). told_rows m.rows lib call.told) calls more
 
+-- ---- counts, acts and screens
+
+later : (a b c : ℕ) → a ≤ b → b ≤ c → a ≤ c
+later a b c h k = omega (arith, h, k)
+
+front_is : {F : Type 0} (xs ys : List Act) (calls more : List (CallOf F)) (none left : List Act) → none ≡ [] → xs ≡ acts_of calls ++ none → ys ≡ acts_of more ++ left → (xs ++ ys) ≡ acts_of (calls ++ more) ++ left
+front_is xs ys calls more none left e h k =
+    ap (λ (acts : List Act). acts ++ ys) (h ∙ ap (λ (acts : List Act). acts_of calls ++ acts) e ∙ append-nil (acts_of calls))
+    ∙ ap (λ (acts : List Act). acts_of calls ++ acts) k
+    ∙ sym (append_assoc (acts_of calls) (acts_of more) left)
+    ∙ ap (λ (acts : List Act). acts ++ left) (sym (acts-append calls more))
+
+-- a call without rows
+plain_screens : (tells : Bool) (screen after : SinkSeen) → after ≡ screen → Screens tells screen after [] (Ok tt)
+plain_screens tells screen after e = (same_all tells screen after e, ap (λ (s : SinkSeen). s.faults) e)
+
+-- not a show
+abbrev pub IsUnshown : Act → Type 0
+IsUnshown (act.Show n) = ⊥
+IsUnshown other = Unit {0}
+
+abbrev first_unshown : List Act → Type 0
+first_unshown [] = Unit {0}
+first_unshown (a ∷ rest) = IsUnshown a
+
+not_lost : {F : Type 0} (a : Act) (calls : List (CallOf F)) (left : List Act) → IsUnshown a → (a ∷ []) ≡ acts_of calls ++ left → IsLostShow calls → ⊥
+not_lost {F} a calls left h e l =
+    let here : (a ∷ []) ≡ act.Show l.1 ∷ left = e ∙ ap (λ (cs : List (CallOf F)). acts_of cs ++ left) l.3 in
+    subst first_unshown here h
+
+roll_unshown : (a : Act) → IsRollCall a → IsUnshown a
+roll_unshown (act.Want first len) h = tt
+roll_unshown (act.Play n) h = tt
+roll_unshown (act.Edit edit) h = tt
+roll_unshown act.Undo h = tt
+roll_unshown act.Redo h = tt
+roll_unshown (act.Cancel first len) h = tt
+roll_unshown act.Claim h = tt
+roll_unshown (act.File job) h = tt
+roll_unshown (act.Release job) h = tt
+roll_unshown (act.Show n) h = absurd h
+roll_unshown (act.Ask name) h = tt
+roll_unshown act.Take h = tt
+roll_unshown (act.End export ending) h = tt
+roll_unshown (act.Mark turns) h = tt
+roll_unshown act.Skip h = tt
+roll_unshown act.Stop h = tt
+
 module _ {M K F : Type 0} (m : Manner M F) where
   gives_on : (lib : Library F) (old mid new : Scene M K) (calls more : List (CallOf F)) → GivesAll m old mid (calls_output m lib calls) → GivesAll m mid new (calls_output m lib more) → GivesAll m old new (calls_output m lib (calls ++ more))
   gives_on lib old mid new calls more h k = (
@@ -141,14 +191,22 @@ module _ {M K F : Type 0} (m : Manner M F) where
   -- a call that was refused
   refused_by : (old new : Scene M K) (what : Act) (why : Full) → new.screen ≡ old.screen → new.out ≡ old.out → Refused m.library old.desk new.desk (need what (state_of m.library new.desk)) why → PlaysActs m old new (what ∷ []) (Err (halt_for why))
   refused_by old new what (full.JournalFull len owing) e f h = record {
-    calls = []; left = what ∷ []; is = refl; spoken = tt; hears = h.0;
+    calls = [];
+    left = what ∷ [];
+    is = refl;
+    spoken = tt;
+    hears = h.0;
     ends = (same_gives old new e f, h.1);
     screen = not_more _ _ (ap (λ (s : SinkSeen). s.faults) e);
     out = not_more _ _ (ap (λ (s : SinkSeen). s.faults) f);
   }
   refused_by old new what full.NoMemory e f h = record {
-    calls = []; left = what ∷ []; is = refl; spoken = tt; hears = h.0;
-    ends = inl (some_all old new _ (same_gives old new e f), (same_gives old new e f).0);
+    calls = [];
+    left = what ∷ [];
+    is = refl;
+    spoken = tt;
+    hears = h.0;
+    ends = inl (some_all old new (calls_output m (m.library old.desk.fixed.library) []) (same_gives old new e f), (same_gives old new e f).0);
     screen = not_more _ _ (ap (λ (s : SinkSeen). s.faults) e);
     out = not_more _ _ (ap (λ (s : SinkSeen). s.faults) f);
   }
@@ -169,19 +227,34 @@ module _ {M K F : Type 0} (m : Manner M F) where
   -- its line was put, and then its rows, or not all of them
   given_by : (old new : Scene M K) (what : Act) (told : Reply F) (r : Result Unit Halt) → IsSaid what → IsAnswer told → HearsAct m.library old.desk new.desk what told → GotAll m.out old.out new.out (line_text (line_of (lib_of old) (frame_of what) 0 told) ∷ []) × (new.out.faults ≡ old.out.faults) → Screens m.screen old.screen new.screen (calls_output m (lib_of old) (one old what told ∷ [])).rows r → PlaysActs m old new (what ∷ []) r
   given_by old new what told (Ok done) said answer h k s = record {
-    calls = one old what told ∷ []; left = []; is = refl; spoken = (record { said = said; told = answer }, tt); hears = h;
+    calls = one old what told ∷ [];
+    left = [];
+    is = refl;
+    spoken = (record { said = said; told = answer }, tt);
+    hears = h;
     ends = (refl, (k.0, s.0));
-    screen = not_more _ _ s.1; out = not_more _ _ k.1;
+    screen = not_more _ _ s.1;
+    out = not_more _ _ k.1;
   }
   given_by old new what told (Err halt.Screen) said answer h k s = record {
-    calls = one old what told ∷ []; left = []; is = refl; spoken = (record { said = said; told = answer }, tt); hears = h;
+    calls = one old what told ∷ [];
+    left = [];
+    is = refl;
+    spoken = (record { said = said; told = answer }, tt);
+    hears = h;
     ends = ((front_all m.out old.out new.out _ k.0, s.0), k.0, s.1);
-    screen = s.2; out = not_more _ _ k.1;
+    screen = s.2;
+    out = not_more _ _ k.1;
   }
   given_by old new what told (Err halt.NoMemory) said answer h k s = record {
-    calls = one old what told ∷ []; left = []; is = refl; spoken = (record { said = said; told = answer }, tt); hears = h;
+    calls = one old what told ∷ [];
+    left = [];
+    is = refl;
+    spoken = (record { said = said; told = answer }, tt);
+    hears = h;
     ends = inl ((front_all m.out old.out new.out _ k.0, s.0), k.0);
-    screen = not_more _ _ s.1; out = not_more _ _ k.1;
+    screen = not_more _ _ s.1;
+    out = not_more _ _ k.1;
   }
   given_by old new what told (Err (halt.Store fault)) said answer h k s = absurd s
   given_by old new what told (Err halt.Out) said answer h k s = absurd s
@@ -197,14 +270,24 @@ module _ {M K F : Type 0} (m : Manner M F) where
   -- its line wasn't put whole
   unsaid_by : (old new : Scene M K) (what : Act) (told : Reply F) (why : Halt) → IsSaid what → IsAnswer told → HearsAct m.library old.desk new.desk what told → new.screen ≡ old.screen → Speaks m.out old.out new.out (line_of (lib_of old) (frame_of what) 0 told) (Err why) → PlaysActs m old new (what ∷ []) (Err why)
   unsaid_by old new what told halt.Out said answer h e k = record {
-    calls = one old what told ∷ []; left = []; is = refl; spoken = (record { said = said; told = answer }, tt); hears = h;
+    calls = one old what told ∷ [];
+    left = [];
+    is = refl;
+    spoken = (record { said = said; told = answer }, tt);
+    hears = h;
     ends = ((k.0, same_front m.screen old.screen new.screen _ e), k.1);
-    screen = not_more _ _ (ap (λ (s : SinkSeen). s.faults) e); out = k.2;
+    screen = not_more _ _ (ap (λ (s : SinkSeen). s.faults) e);
+    out = k.2;
   }
   unsaid_by old new what told halt.OutMemory said answer h e k = record {
-    calls = one old what told ∷ []; left = []; is = refl; spoken = (record { said = said; told = answer }, tt); hears = h;
+    calls = one old what told ∷ [];
+    left = [];
+    is = refl;
+    spoken = (record { said = said; told = answer }, tt);
+    hears = h;
     ends = (k.0, same_front m.screen old.screen new.screen _ e);
-    screen = not_more _ _ (ap (λ (s : SinkSeen). s.faults) e); out = not_more _ _ k.1;
+    screen = not_more _ _ (ap (λ (s : SinkSeen). s.faults) e);
+    out = not_more _ _ k.1;
   }
   unsaid_by old new what told (halt.Store fault) said answer h e k = absurd k
   unsaid_by old new what told halt.Screen said answer h e k = absurd k
@@ -215,13 +298,9 @@ module _ {M K F : Type 0} (m : Manner M F) where
   unsaid old new what told line why said answer h f e k =
       unsaid_by old new what told why said answer h e (subst (λ (l : OutLine). Speaks m.out old.out new.out l (Err why)) f k)
 
-  -- a call without rows
-  plain_screens : (screen after : SinkSeen) → after ≡ screen → Screens m.screen screen after [] (Ok tt)
-  plain_screens screen after e = (same_all m.screen screen after e, ap (λ (s : SinkSeen). s.faults) e)
-
   pub says_acts : (old new : Scene M K) (what : Act) (r : Result Unit Halt) → IsSaid what → new.screen ≡ old.screen → SaysCall m.library m.out (place old.desk old.out) (place new.desk new.out) (what, r) → PlaysActs m old new (what ∷ []) r
   says_acts old new what (Ok done) said e h =
-      given old new what h.answer _ [] (Ok tt) said (plain_answer h.answer h.plain) h.hears refl (sym (plain_rows m.rows (lib_of old) h.answer h.plain)) h.says (plain_screens old.screen new.screen e)
+      given old new what h.answer _ [] (Ok tt) said (plain_answer h.answer h.plain) h.hears refl (sym (plain_rows m.rows (lib_of old) h.answer h.plain)) h.says (plain_screens m.screen old.screen new.screen e)
   says_acts old new what (Err halt.Out) said e h = unsaid_by old new what h.answer halt.Out said (plain_answer h.answer h.plain) h.hears e h.says
   says_acts old new what (Err halt.OutMemory) said e h = unsaid_by old new what h.answer halt.OutMemory said (plain_answer h.answer h.plain) h.hears e h.says
   says_acts old new what (Err halt.NoMemory) said e h = refused_by old new what full.NoMemory e h.1 h.0
@@ -236,7 +315,10 @@ module _ {M K F : Type 0} (m : Manner M F) where
   unshown old new n full.NoMemory s is e f (inl h) =
       refused_act old new (act.Show n) full.NoMemory s is e f (hears_learns m.library old.desk new.desk h.0, h.1)
   unshown old new n full.NoMemory s is e f (inr h) = subst (λ (x : Halt). PlaysActs m old new (act.Show n ∷ []) (Err x)) (sym is) (record {
-    calls = one old (act.Show n) (Render h.0) ∷ []; left = []; is = refl; spoken = (record { said = tt; told = tt }, tt);
+    calls = one old (act.Show n) (Render h.0) ∷ [];
+    left = [];
+    is = refl;
+    spoken = (record { said = tt; told = tt }, tt);
     hears = hears_enters m.library old.desk new.desk (act.Show n) (Render h.0) h.1;
     ends = inr ((old.desk.fixed.number, n, h.0, refl), same_gives old new e f);
     screen = not_more _ _ (ap (λ (s : SinkSeen). s.faults) e);
@@ -247,16 +329,6 @@ module _ {M K F : Type 0} (m : Manner M F) where
 
   lib_is : (old mid : Scene M K) (calls : List (CallOf F)) → Hears m.library old.desk mid.desk calls → lib_of mid ≡ lib_of old
   lib_is old mid calls h = ap (λ (f : FixedOf M K). m.library f.library) h.fixed
-
-  later : (a b c : ℕ) → a ≤ b → b ≤ c → a ≤ c
-  later a b c h k = omega (arith, h, k)
-
-  front_is : (xs ys : List Act) (calls more : List (CallOf F)) (none left : List Act) → none ≡ [] → xs ≡ acts_of calls ++ none → ys ≡ acts_of more ++ left → (xs ++ ys) ≡ acts_of (calls ++ more) ++ left
-  front_is xs ys calls more none left e h k =
-      ap (λ (as : List Act). as ++ ys) (h ∙ ap (λ (as : List Act). acts_of calls ++ as) e ∙ append-nil (acts_of calls))
-      ∙ ap (λ (as : List Act). acts_of calls ++ as) k
-      ∙ sym (append_assoc (acts_of calls) (acts_of more) left)
-      ∙ ap (λ (as : List Act). as ++ left) (sym (acts-append calls more))
 
   ends_on : (old mid new : Scene M K) (calls more : List (CallOf F)) → lib_of mid ≡ lib_of old → GivesAll m old mid (calls_output m (lib_of old) calls) → GivesAll m mid new (calls_output m (lib_of mid) more) → GivesAll m old new (calls_output m (lib_of old) (calls ++ more))
   ends_on old mid new calls more e h k = gives_on (lib_of old) old mid new calls more h (subst (λ (l : Library F). GivesAll m mid new (calls_output m l more)) e k)
@@ -269,9 +341,14 @@ module _ {M K F : Type 0} (m : Manner M F) where
 
   pub no_acts : (s : Scene M K) → Hears m.library s.desk s.desk [] → PlaysActs m s s [] (Ok tt)
   no_acts s h = record {
-    calls = []; left = []; is = refl; spoken = tt; hears = h;
+    calls = [];
+    left = [];
+    is = refl;
+    spoken = tt;
+    hears = h;
     ends = (refl, same_gives s s refl refl);
-    screen = omega arith; out = omega arith;
+    screen = omega arith;
+    out = omega arith;
   }
 
   pub acts_on : (old mid new : Scene M K) (xs ys : List Act) → PlaysActs m old mid xs (Ok tt) → PlaysActs m mid new ys (Ok tt) → PlaysActs m old new (xs ++ ys) (Ok tt)
@@ -285,20 +362,6 @@ module _ {M K F : Type 0} (m : Manner M F) where
     screen = later _ _ _ h.screen k.screen;
     out = later _ _ _ h.out k.out;
   }
-
-  -- no show is among these acts
-  abbrev pub IsUnshown : Act → Type 0
-  IsUnshown (act.Show n) = ⊥
-  IsUnshown other = Unit {0}
-
-  abbrev first_unshown : List Act → Type 0
-  first_unshown [] = Unit {0}
-  first_unshown (a ∷ as) = IsUnshown a
-
-  not_lost : (a : Act) (calls : List (CallOf F)) (left : List Act) → IsUnshown a → (a ∷ []) ≡ acts_of calls ++ left → IsLostShow calls → ⊥
-  not_lost a calls left h e l =
-      let here : (a ∷ []) ≡ act.Show l.1 ∷ left = e ∙ ap (λ (cs : List (CallOf F)). acts_of cs ++ left) l.3 in
-      subst first_unshown here h
 
   more_room : (s : Scene M K) (left rest : List Act) (len owing : ℕ) → HasNoRoom m s left len owing → HasNoRoom m s (left ++ rest) len owing
   more_room s [] rest len owing h = absurd h
@@ -320,10 +383,37 @@ module _ {M K F : Type 0} (m : Manner M F) where
       record {
         calls = h.calls ++ k.calls;
         left = k.left ++ rest;
-        is = front_is xs (a ∷ rest) h.calls k.calls h.left (k.left ++ rest) h.ends.0 h.is (ap (λ (as : List Act). as ++ rest) k.is ∙ append_assoc (acts_of k.calls) k.left rest);
+        is = front_is xs (a ∷ rest) h.calls k.calls h.left (k.left ++ rest) h.ends.0 h.is (ap (λ (acts : List Act). acts ++ rest) k.is ∙ append_assoc (acts_of k.calls) k.left rest);
         spoken = spoken-append h.calls k.calls h.spoken k.spoken;
         hears = hears_on m.library old.desk mid.desk new.desk h.calls k.calls h.hears k.hears;
         ends = stops_on old mid new a h.calls k.calls k.left rest why u k.is lib h.ends.1 h.screen h.out k.ends;
         screen = later _ _ _ h.screen k.screen;
         out = later _ _ _ h.out k.out;
       }
+
+  -- ---- a roll
+
+  -- so many of its calls were made, and these are left
+  pub record IsRolling (old new : Scene M K) (whole left : List Act) : Type 0 where
+    pub done : List Act
+    pub are : done ++ left ≡ whole
+    pub plays : PlaysActs m old new done (Ok tt)
+
+  pub rolls_none : (s : Scene M K) (whole left : List Act) → left ≡ whole → IsRolling s s whole left
+  rolls_none s whole left e = record { done = []; are = e; plays = no_acts s (hears_nothing m.library s.desk) }
+
+  pub rolls_on : (old mid new : Scene M K) (whole left rest : List Act) (a : Act) → left ≡ a ∷ rest → IsRolling old mid whole left → PlaysActs m mid new (a ∷ []) (Ok tt) → IsRolling old new whole rest
+  rolls_on old mid new whole left rest a e h k = record {
+    done = h.done ++ a ∷ [];
+    are = append_assoc h.done (a ∷ []) rest ∙ ap (λ (acts : List Act). h.done ++ acts) (sym e) ∙ h.are;
+    plays = acts_on old mid new h.done (a ∷ []) h.plays k;
+  }
+
+  pub rolls_all : (old new : Scene M K) (whole left : List Act) → left ≡ [] → IsRolling old new whole left → PlaysActs m old new whole (Ok tt)
+  rolls_all old new whole left e h =
+      subst (λ (acts : List Act). PlaysActs m old new acts (Ok tt)) (sym (append-nil h.done) ∙ ap (λ (acts : List Act). h.done ++ acts) (sym e) ∙ h.are) h.plays
+
+  pub roll_stops : (old mid new : Scene M K) (whole left rest : List Act) (a : Act) (why : Halt) → left ≡ a ∷ rest → IsRollCall a → IsRolling old mid whole left → PlaysActs m mid new (a ∷ []) (Err why) → PlaysActs m old new whole (Err why)
+  roll_stops old mid new whole left rest a why e u h k =
+      subst (λ (acts : List Act). PlaysActs m old new acts (Err why)) (ap (λ (acts : List Act). h.done ++ acts) (sym e) ∙ h.are)
+      (acts_stop old mid new h.done a rest why (roll_unshown a u) h.plays k)

@@ -30,6 +30,7 @@ module _ {M K F : Type 0} (s : Setting M F) where
       acts_line s (player desk store screen before) (player now store screen after) line is (Err faults.NoMemory) (what ∷ []) r e u reads same refl
       (says_acts (manner_of s) (scene_of s (player desk store screen before)) (scene_of s (player now store screen after)) what r said refl h)
 
+module _ {M F : Type 0} (s : Setting M F) where
   pub record IsEditLine (c : Call) (e : Edit) : Type 0 where
     pub no_work : IsNoWork c
     pub reads : ReadsList s c (Err faults.NoMemory)

@@ -22,22 +22,22 @@ use Rattle.play_head.specs.Told.{fault_word, picture_line, line_of}
 
 -- ---- a play
 
-fault-listed : {F : Type 0} (n : ℕ) (why : RenderFault) (kind : FrameFault) → why.kind ≡ kind → IsTrue (is_listed (play_line {F = F} n (play.Fault (record why { kind = kind }))))
+fault-listed : (F : Type 0) (n : ℕ) (why : RenderFault) (kind : FrameFault) → why.kind ≡ kind → IsTrue (is_listed (play_line {F = F} n (play.Fault (record why { kind = kind }))))
 unfolding fields
-fault-listed n why fault.Empty e = refl
-fault-listed n why fault.Chain e = refl
-fault-listed n why (fault.Parity slice) e = refl
-fault-listed n why fault.NotKey e = refl
-fault-listed n why (fault.Header slice) e = refl
-fault-listed n why (fault.TableIndex slice) e = refl
-fault-listed n why (fault.Cover cell) e = refl
-fault-listed n why (fault.Symbol slice) e = refl
-fault-listed n why (fault.Overrun slice) e = refl
+fault-listed F n why fault.Empty e = refl
+fault-listed F n why fault.Chain e = refl
+fault-listed F n why (fault.Parity slice) e = refl
+fault-listed F n why fault.NotKey e = refl
+fault-listed F n why (fault.Header slice) e = refl
+fault-listed F n why (fault.TableIndex slice) e = refl
+fault-listed F n why (fault.Cover cell) e = refl
+fault-listed F n why (fault.Symbol slice) e = refl
+fault-listed F n why (fault.Overrun slice) e = refl
 
 pub play_line-listed : {F : Type 0} (n : ℕ) (told : PlayReply F) → IsTrue (is_listed (play_line n told))
 unfolding fields
 play_line-listed n (play.Frame frame) = refl
-play_line-listed {F} n (play.Fault why) = fault-listed {F = F} n why why.kind refl
+play_line-listed {F} n (play.Fault why) = fault-listed F n why why.kind refl
 play_line-listed n (play.Pending recipe) = refl
 play_line-listed n (play.PastEnd len) = refl
 

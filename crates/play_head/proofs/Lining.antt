@@ -115,10 +115,17 @@ abbrev pub IsNoWork : Call → Type 0
 IsNoWork (call.Work turns) = ⊥
 IsNoWork other = Unit {0}
 
-module _ {M K F : Type 0} (s : Setting M F) where
-  abbrev pub manner_of : Manner M F
-  manner_of = record { library = s.library; rows = s.rows; screen = s.tells.screen; out = s.tells.out }
+-- how its calls are given out
+abbrev pub manner_of : {M F : Type 0} → Setting M F → Manner M F
+manner_of s = record { library = s.library; rows = s.rows; screen = s.tells.screen; out = s.tells.out }
 
+lines_are : {M F : Type 0} (s : Setting M F) (lib : Library F) (p : Played F) → AllSpoken p.calls → lines_of lib p ≡ (calls_output (manner_of s) lib p.calls).lines
+lines_are s lib p h = spoken_lines lib p p.calls h
+
+rows_are : {M F : Type 0} (s : Setting M F) (lib : Library F) (p : Played F) → rows_of s lib p ≡ (calls_output (manner_of s) lib p.calls).rows
+rows_are s lib p = spoken_rows s lib p.calls
+
+module _ {M K F : Type 0} (s : Setting M F) where
   abbrev pub scene_of : Player M K → Scene M K
   scene_of p = record { desk = p.desk; screen = p.screen; out = p.out }
 
@@ -166,38 +173,32 @@ module _ {M K F : Type 0} (s : Setting M F) where
   has_some d p (call.Work turns) left u e = absurd u
   has_some d p (call.Export file) left u e = e
 
-  lines_are : (lib : Library F) (p : Played F) → AllSpoken p.calls → lines_of lib p ≡ (calls_output manner_of lib p.calls).lines
-  lines_are lib p h = spoken_lines lib p p.calls h
-
-  rows_are : (lib : Library F) (p : Played F) → rows_of s lib p ≡ (calls_output manner_of lib p.calls).rows
-  rows_are lib p = spoken_rows s lib p.calls
-
-  puts_all : (lib : Library F) (old new : Player M K) (p : Played F) → AllSpoken p.calls → GivesAll manner_of (scene_of old) (scene_of new) (calls_output manner_of lib p.calls) → PutsAll s old new (output_of s lib p)
+  puts_all : (lib : Library F) (old new : Player M K) (p : Played F) → AllSpoken p.calls → GivesAll (manner_of s) (scene_of old) (scene_of new) (calls_output (manner_of s) lib p.calls) → PutsAll s old new (output_of s lib p)
   puts_all lib old new p h k = (
-    subst (λ (ls : List OutLine). GotAll s.tells.out old.out new.out (texts ls)) (sym (lines_are lib p h)) k.0,
-    subst (GotAll s.tells.screen old.screen new.screen) (sym (rows_are lib p)) k.1,
+    subst (λ (ls : List OutLine). GotAll s.tells.out old.out new.out (texts ls)) (sym (lines_are s lib p h)) k.0,
+    subst (GotAll s.tells.screen old.screen new.screen) (sym (rows_are s lib p)) k.1,
   )
 
-  puts_some : (lib : Library F) (old new : Player M K) (p : Played F) → AllSpoken p.calls → GivesSome manner_of (scene_of old) (scene_of new) (calls_output manner_of lib p.calls) → PutsSome s old new (output_of s lib p)
+  puts_some : (lib : Library F) (old new : Player M K) (p : Played F) → AllSpoken p.calls → GivesSome (manner_of s) (scene_of old) (scene_of new) (calls_output (manner_of s) lib p.calls) → PutsSome s old new (output_of s lib p)
   puts_some lib old new p h k = (
-    subst (λ (ls : List OutLine). GotFront s.tells.out old.out new.out (texts ls)) (sym (lines_are lib p h)) k.0,
-    subst (GotFront s.tells.screen old.screen new.screen) (sym (rows_are lib p)) k.1,
+    subst (λ (ls : List OutLine). GotFront s.tells.out old.out new.out (texts ls)) (sym (lines_are s lib p h)) k.0,
+    subst (GotFront s.tells.screen old.screen new.screen) (sym (rows_are s lib p)) k.1,
   )
 
-  puts_lines : (lib : Library F) (old new : Player M K) (p : Played F) → AllSpoken p.calls → GotAll s.tells.out old.out new.out (texts (calls_output manner_of lib p.calls).lines) → GotAll s.tells.out old.out new.out (texts (lines_of lib p))
-  puts_lines lib old new p h k = subst (λ (ls : List OutLine). GotAll s.tells.out old.out new.out (texts ls)) (sym (lines_are lib p h)) k
+  puts_lines : (lib : Library F) (old new : Player M K) (p : Played F) → AllSpoken p.calls → GotAll s.tells.out old.out new.out (texts (calls_output (manner_of s) lib p.calls).lines) → GotAll s.tells.out old.out new.out (texts (lines_of lib p))
+  puts_lines lib old new p h k = subst (λ (ls : List OutLine). GotAll s.tells.out old.out new.out (texts ls)) (sym (lines_are s lib p h)) k
 
-  stops_line : (old new : Player M K) (p : Played F) (left : List Act) (why : Halt) → AllSpoken p.calls → StopsActs manner_of (scene_of old) (scene_of new) (p.calls, left) why → StopsLine s old new (p, left) why
+  stops_line : (old new : Player M K) (p : Played F) (left : List Act) (why : Halt) → AllSpoken p.calls → StopsActs (manner_of s) (scene_of old) (scene_of new) (p.calls, left) why → StopsLine s old new (p, left) why
   stops_line old new p left (halt.Store fault) h k = absurd k
-  stops_line old new p left halt.Screen h k = (puts_some _ old new p h k.0, puts_lines _ old new p h k.1, k.2)
-  stops_line old new p left halt.Out h k = (puts_some _ old new p h k.0, k.1)
-  stops_line old new p left halt.OutMemory h k = puts_some _ old new p h k
-  stops_line old new p left halt.NoMemory h (inl k) = inl (puts_some _ old new p h k.0, puts_lines _ old new p h k.1)
+  stops_line old new p left halt.Screen h k = (puts_some (s.library old.desk.fixed.library) old new p h k.0, puts_lines (s.library old.desk.fixed.library) old new p h k.1, k.2)
+  stops_line old new p left halt.Out h k = (puts_some (s.library old.desk.fixed.library) old new p h k.0, k.1)
+  stops_line old new p left halt.OutMemory h k = puts_some (s.library old.desk.fixed.library) old new p h k
+  stops_line old new p left halt.NoMemory h (inl k) = inl (puts_some (s.library old.desk.fixed.library) old new p h k.0, puts_lines (s.library old.desk.fixed.library) old new p h k.1)
   stops_line old new p left halt.NoMemory h (inr k) = inr k
   stops_line old new p [] (halt.JournalFull len owing) h k = absurd k.1
-  stops_line old new p (a ∷ left) (halt.JournalFull len owing) h k = (puts_all _ old new p h k.0, k.1)
+  stops_line old new p (a ∷ left) (halt.JournalFull len owing) h k = (puts_all (s.library old.desk.fixed.library) old new p h k.0, k.1)
 
-  lasts : (old new : Player M K) (acts : List Act) (r : Result Unit Halt) → new.store ≡ old.store → PlaysActs manner_of (scene_of old) (scene_of new) acts r → Lasts old new
+  lasts : (old new : Player M K) (acts : List Act) (r : Result Unit Halt) → new.store ≡ old.store → PlaysActs (manner_of s) (scene_of old) (scene_of new) acts r → Lasts old new
   lasts old new acts r e h =
       let same : new.store.faults ≡ old.store.faults = ap (λ (x : StoreSeen). x.faults) e in
       record {
@@ -208,7 +209,7 @@ module _ {M K F : Type 0} (s : Setting M F) where
       }
 
   -- the calls of the line, each with its line of output
-  acts_line_is : (old new : Player M K) (line : BodyLine) (list : Result (List Segment) EdlFault) (r : Result Unit Halt) → IsNoWork line.call → ReadsList s line.call list → new.store ≡ old.store → PlaysActs manner_of (scene_of old) (scene_of new) (line_acts s.clips line.call list) r → PlaysLine s old new line r
+  acts_line_is : (old new : Player M K) (line : BodyLine) (list : Result (List Segment) EdlFault) (r : Result Unit Halt) → IsNoWork line.call → ReadsList s line.call list → new.store ≡ old.store → PlaysActs (manner_of s) (scene_of old) (scene_of new) (line_acts s.clips line.call list) r → PlaysLine s old new line r
   acts_line_is old new line list (Ok done) u reads e h =
       let p : Played F = record { line = line; list = list; calls = h.calls } in
       let all : acts_of h.calls ≡ line_acts s.clips line.call list = sym (h.is ∙ ap (λ (those : List Act). acts_of h.calls ++ those) h.ends.0 ∙ append-nil (acts_of h.calls)) in (
@@ -217,7 +218,7 @@ module _ {M K F : Type 0} (s : Setting M F) where
           is = refl;
           whole = record { calls = has_calls new.desk (heard s.library old.desk) p line.call u all; list = reads };
           hears = h.hears;
-          puts = puts_all _ old new p h.spoken h.ends.1;
+          puts = puts_all (s.library old.desk.fixed.library) old new p h.spoken h.ends.1;
         },
         lasts old new (line_acts s.clips line.call list) (Ok done) e h,
       )
@@ -236,7 +237,7 @@ module _ {M K F : Type 0} (s : Setting M F) where
       )
 
   -- of a line whose call is known
-  pub acts_line : (old new : Player M K) (line : BodyLine) (is : Call) (list : Result (List Segment) EdlFault) (acts : List Act) (r : Result Unit Halt) → line.call ≡ is → IsNoWork is → ReadsList s is list → acts ≡ line_acts s.clips is list → new.store ≡ old.store → PlaysActs manner_of (scene_of old) (scene_of new) acts r → PlaysLine s old new line r
+  pub acts_line : (old new : Player M K) (line : BodyLine) (is : Call) (list : Result (List Segment) EdlFault) (acts : List Act) (r : Result Unit Halt) → line.call ≡ is → IsNoWork is → ReadsList s is list → acts ≡ line_acts s.clips is list → new.store ≡ old.store → PlaysActs (manner_of s) (scene_of old) (scene_of new) acts r → PlaysLine s old new line r
   acts_line old new line is list acts r e u reads same store h =
       acts_line_is old new line list r (subst IsNoWork (sym e) u) (subst (λ (c : Call). ReadsList s c list) (sym e) reads) store
-      (subst (λ (those : List Act). PlaysActs manner_of (scene_of old) (scene_of new) those r) (same ∙ ap (λ (c : Call). line_acts s.clips c list) (sym e)) h)
+      (subst (λ (those : List Act). PlaysActs (manner_of s) (scene_of old) (scene_of new) those r) (same ∙ ap (λ (c : Call). line_acts s.clips c list) (sym e)) h)

@@ -14,11 +14,14 @@ use Rattle.tl_model.specs.declared.journal.Act.TheVariants as act
 use Rattle.tl_model.specs.declared.segment.Segment.{Segment}
 use Rattle.tl_ports.specs.declared.fault.FetchFault.{FetchFault}
 use Rattle.tl_ports.specs.declared.fault.FetchFault.TheVariants as fetching
-use Rattle.tl_ports.specs.Outside.{FetchHasCause}
+use Rattle.std.specs.Global.{Vec}
+use Rattle.tl_ports.specs.Outside.{AddsFile, IsFetched, FetchHasCause}
 use Rattle.tl_ports.specs.Seen.{StoreSeen, SinkSeen}
 use Rattle.render_core.specs.Calls.{CallOf}
-use Rattle.render_core.specs.Step.{Silent}
-use Rattle.edit_desk.specs.Desk.{DeskOf, Hears, heard}
+use Rattle.render_core.specs.declared.reply.Full.{Full}
+use Rattle.render_core.specs.declared.reply.Full.TheVariants as full
+use Rattle.render_core.specs.Step.{need, Silent}
+use Rattle.edit_desk.specs.Desk.{DeskOf, Hears, heard, state_of}
 use Rattle.edl_text.specs.declared.event.Edl.{Edl}
 use Rattle.edl_text.specs.declared.fault.EdlFault.{EdlFault}
 use Rattle.edl_text.specs.declared.fault.EdlFault.TheVariants as faults
@@ -34,11 +37,14 @@ use Rattle.script_lang.specs.Line.{fields, is_listed}
 use Rattle.play_head.specs.declared.halt.Halt.{Halt}
 use Rattle.play_head.specs.declared.halt.Halt.TheVariants as halt
 use Rattle.play_head.specs.Acts.{line_acts, BuildsTo}
+use Rattle.play_head.specs.Halting.{halt_for}
+use Rattle.play_head.specs.Heard.{Refused}
 use Rattle.play_head.specs.Listing.{list_wanted, FetchesList, ReadsAs, Skips}
 use Rattle.play_head.specs.Playing.{Setting, Player, Played, list_line, IsRead, ReadsList, HasCalls, HasSomeCalls}
 use Rattle.play_head.specs.PlayingLine.{Output, file_wanted, no_output, output_of, PutsAll, PutsSome, Lasts, StopsLine, PlaysLine}
 use Rattle.play_head.specs.Putting.{GotAll, GotFront}
 use Rattle.play_head.specs.Saying.{Speaks, SaysCall, place}
+use Rattle.play_head.specs.Working.{HearsAct}
 use Rattle.play_head.proofs.Acting.{front_all, same_all, same_front, says_acts}
 use Rattle.play_head.proofs.Desks.{hears_nothing}
 use Rattle.play_head.proofs.Lining.{manner_of, scene_of, acts_line}
@@ -90,15 +96,45 @@ list_line-listed n why.Overlap = refl
 pub same_store : (old new : StoreSeen) → new.file ≡ old.file → new.faults ≡ old.faults → new ≡ old
 same_store old new e f = ap (λ (file : List ℕ → Option (List ℕ)). record { file = file; faults = new.faults }) e ∙ ap (λ (n : ℕ). record { file = old.file; faults = n }) f
 
+-- the text of a file that was fetched into nothing
+pub fetched : (tells : Bool) (old new : StoreSeen) (file : List ℕ) (text : Vec ℕ) → AddsFile tells old (list_wanted file) [] text.items → FetchHasCause tells old new (list_wanted file) (Ok tt) → new.file ≡ old.file → FetchesList tells old new file (Ok text)
+fetched tells old new file text h cause files = (same_store old new files cause, subst (IsFetched tells old (list_wanted file)) (sym h.1) h.2)
+
+-- a skip that was made, and its line; or one that was refused
+pub skips : {M K F : Type 0} (library : M → Library F) (tells : Bool) (old new : DeskOf M K) (before after : SinkSeen) (line : OutLine) (r : Result Unit Halt) → HearsAct library old new act.Skip Silent → Speaks tells before after line r → Skips library tells (place old before) (place new after) (line, r)
+skips library tells old new before after line (Ok done) h k = (h, k)
+skips library tells old new before after line (Err halt.Out) h k = (h, k)
+skips library tells old new before after line (Err halt.OutMemory) h k = (h, k)
+skips library tells old new before after line (Err halt.NoMemory) h k = absurd k
+skips library tells old new before after line (Err (halt.JournalFull len owing)) h k = absurd k
+skips library tells old new before after line (Err (halt.Store fault)) h k = absurd k
+skips library tells old new before after line (Err halt.Screen) h k = absurd k
+
+unskipped : {M K F : Type 0} (library : M → Library F) (tells : Bool) (old new : DeskOf M K) (out : SinkSeen) (line : OutLine) (w : Full) → Refused library old new (need act.Skip (state_of library new)) w → Skips library tells (place old out) (place new out) (line, Err (halt_for w))
+unskipped library tells old new out line (full.JournalFull len owing) h = (h, refl)
+unskipped library tells old new out line full.NoMemory h = (h, refl)
+
+pub skip_refused : {M K F : Type 0} (library : M → Library F) (tells : Bool) (old new : DeskOf M K) (out : SinkSeen) (line : OutLine) (w : Full) (stop : Halt) → stop ≡ halt_for w → Refused library old new (need act.Skip (state_of library new)) w → Skips library tells (place old out) (place new out) (line, Err stop)
+skip_refused library tells old new out line w stop e h = subst (λ (x : Halt). Skips library tells (place old out) (place new out) (line, Err x)) (sym e) (unskipped library tells old new out line w h)
+
+same_count : (a b : ℕ) → b ≡ a → a ≤ b
+same_count a b e = omega (arith, e)
+
+abbrev no_calls : {F : Type 0} → BodyLine → Played F
+no_calls line = record { line = line; list = Err faults.NoMemory; calls = [] }
+
+abbrev pub HasText : {M F : Type 0} → Setting M F → (file text : List ℕ) → Type 0
+HasText s file text = (length text ≤ max_text_bytes) × (IsTrue s.tells.store → s.files file ≡ Some text)
+
+pub has_text : {M F : Type 0} (s : Setting M F) (file text items : List ℕ) → text ≡ items → HasText s file items → HasText s file text
+has_text s file text items e h = subst (HasText s file) (sym e) h
+
 module _ {M K F : Type 0} (s : Setting M F) where
   nothing_all : (old new : Player M K) → new.screen ≡ old.screen → new.out ≡ old.out → PutsAll s old new no_output
   nothing_all old new e f = (same_all s.tells.out old.out new.out f, same_all s.tells.screen old.screen new.screen e)
 
   nothing_some : (old new : Player M K) → new.screen ≡ old.screen → new.out ≡ old.out → PutsSome s old new no_output
   nothing_some old new e f = (same_front s.tells.out old.out new.out [] f, same_front s.tells.screen old.screen new.screen [] e)
-
-  no_calls : BodyLine → Played F
-  no_calls line = record { line = line; list = Err faults.NoMemory; calls = [] }
 
   -- the line stopped before its call
   unbegun : (old new : Player M K) (line : BodyLine) (file : List ℕ) (why : Halt) → line.call ≡ call.Edl file → Hears s.library old.desk new.desk [] → Lasts old new → StopsLine s old new (no_calls line, act.Skip ∷ []) why → PlaysLine s old new line (Err why)
@@ -114,9 +150,6 @@ module _ {M K F : Type 0} (s : Setting M F) where
     },
     lasts,
   )
-
-  same_count : (a b : ℕ) → b ≡ a → a ≤ b
-  same_count a b e = omega (arith, e)
 
   lasts_as : (old new : Player M K) → new.store ≡ old.store → new.screen ≡ old.screen → new.out ≡ old.out → Lasts old new
   lasts_as old new e f g = record {
@@ -144,19 +177,16 @@ module _ {M K F : Type 0} (s : Setting M F) where
   unfetched desk before after screen out line file halt.OutMemory is h = absurd h
   unfetched desk before after screen out line file (halt.JournalFull len owing) is h = absurd h
 
-  abbrev pub HasText : (file text : List ℕ) → Type 0
-  HasText file text = (length text ≤ max_text_bytes) × (IsTrue s.tells.store → s.files file ≡ Some text)
-
   -- it took the timeline's place, or was to
-  pub replaced : (old new : Player M K) (line : BodyLine) (file text : List ℕ) (segments : List Segment) (r : Result Unit Halt) → line.call ≡ call.Edl file → new.store ≡ old.store → new.screen ≡ old.screen → HasText file text → ReadsAs s.clips s.rate text (Ok segments) → SaysCall s.library s.tells.out (place old.desk old.out) (place new.desk new.out) (act.Edit (edits.Replace segments), r) → PlaysLine s old new line r
+  pub replaced : (old new : Player M K) (line : BodyLine) (file text : List ℕ) (segments : List Segment) (r : Result Unit Halt) → line.call ≡ call.Edl file → new.store ≡ old.store → new.screen ≡ old.screen → HasText s file text → ReadsAs s.clips s.rate text (Ok segments) → SaysCall s.library s.tells.out (place old.desk old.out) (place new.desk new.out) (act.Edit (edits.Replace segments), r) → PlaysLine s old new line r
   replaced old new line file text segments r is store screen has reads h =
       acts_line s old new line (call.Edl file) (Ok segments) (act.Edit (edits.Replace segments) ∷ []) r is tt (text, has.0, has.1, reads) refl store
       (says_acts (manner_of s) (scene_of s old) (scene_of s new) (act.Edit (edits.Replace segments)) r tt screen h)
 
-  skip_call : DeskOf M K → CallOf F
+  abbrev skip_call : DeskOf M K → CallOf F
   skip_call d = record { pass = d.fixed.number; act = act.Skip; told = Silent }
 
-  passed : Player M K → BodyLine → EdlFault → Played F
+  abbrev passed : Player M K → BodyLine → EdlFault → Played F
   passed old line fault = record { line = line; list = Err fault; calls = skip_call old.desk ∷ [] }
 
   -- it was passed over, and its line wasn't put whole
@@ -211,8 +241,9 @@ module _ {M K F : Type 0} (s : Setting M F) where
   passed_over old new line file fault (Err (halt.Store why)) is store screen read h = absurd h
   passed_over old new line file fault (Err halt.Screen) is store screen read h = absurd h
 
-  pub skipped : (old new : Player M K) (line : BodyLine) (file text : List ℕ) (n : ℕ) (w : EdlWhy) (r : Result Unit Halt) → line.call ≡ call.Edl file → new.store ≡ old.store → new.screen ≡ old.screen → HasText file text → ReadsAs s.clips s.rate text (Err (faults.Line n w)) → Skips s.library s.tells.out (place old.desk old.out) (place new.desk new.out) (list_line (Err (faults.Line n w)), r) → PlaysLine s old new line r
-  skipped old new line file text n w r is store screen has reads h = passed_over old new line file (faults.Line n w) r is store screen (text, has.0, has.1, reads) h
+  pub skipped : (old new : Player M K) (line : BodyLine) (file text : List ℕ) (fault : EdlFault) (n : ℕ) (w : EdlWhy) (r : Result Unit Halt) → fault ≡ faults.Line n w → line.call ≡ call.Edl file → new.store ≡ old.store → new.screen ≡ old.screen → HasText s file text → ReadsAs s.clips s.rate text (Err fault) → Skips s.library s.tells.out (place old.desk old.out) (place new.desk new.out) (list_line (Err (faults.Line n w)), r) → PlaysLine s old new line r
+  skipped old new line file text fault n w r e is store screen has reads h =
+      passed_over old new line file (faults.Line n w) r is store screen (text, has.0, has.1, subst (λ (f : EdlFault). ReadsAs s.clips s.rate text (Err f)) e reads) h
 
   -- memory ran out for its segments
   pub unread : (desk : DeskOf M K) (before after : StoreSeen) (screen out : SinkSeen) (line : BodyLine) (file : List ℕ) → line.call ≡ call.Edl file → after ≡ before → PlaysLine s (record { desk = desk; store = before; screen = screen; out = out }) (record { desk = desk; store = after; screen = screen; out = out }) line (Err halt.NoMemory)

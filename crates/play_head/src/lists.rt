@@ -46,7 +46,7 @@ fn read_list(alloc: Global, text: &[u8], clips: &Clips, rate: u32) -> Result<Seg
     requires clips { length clips.now ≤ max_clips }
     requires lines { length (lines text.now) < 2 ^ 32 }
     ensures reads { ReadsAs clips.now rate text.now result }
-    ensures segments { IfOk result (λ segments. All IsReplacement segments) }
+    ensures formed { IfOk result (All IsReplacement) }
 {
     match read_edl(alloc, text, rate) {
         Ok(list) => build(alloc, &list, clips),

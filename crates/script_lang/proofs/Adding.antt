@@ -31,7 +31,7 @@ both_ways true y f g = sym (f refl)
 both_ways false true f g = g refl
 both_ways false false f g = refl
 
-swap : (a b : List ℕ) → bytes_eq a b ≡ bytes_eq b a
+pub swap : (a b : List ℕ) → bytes_eq a b ≡ bytes_eq b a
 swap a b =
     both_ways (bytes_eq a b) (bytes_eq b a) (λ e. (bytes_eq-Decides b a).1 (sym ((bytes_eq-Decides a b).0 e)))
     (λ e. (bytes_eq-Decides a b).1 (sym ((bytes_eq-Decides b a).0 e)))

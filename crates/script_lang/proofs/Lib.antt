@@ -6,3 +6,8 @@ pub mod Keeping
 pub mod CallSound
 pub mod Adding
 pub mod Taking
+pub mod WrittenWords
+pub mod WrittenLines
+pub mod WrittenCalls
+pub mod WrittenHeader
+pub mod Written

@@ -60,7 +60,7 @@ is_plain word = is_word SpaceTabReturn word && is_line word
 digit_bounds : (b : ℕ) → is_ascii_digit b ≡ true → (48 ≤ b) × (b ≤ 57)
 digit_bounds b e = let parts = both (nat_le 48 b) (nat_le b 57) e in (leb-true 48 b parts.0, leb-true b 57 parts.1)
 
-other_byte : (b other : ℕ) → is_ascii_digit b ≡ true → other < 48 → nat_eq b other ≡ false
+pub other_byte : (b other : ℕ) → is_ascii_digit b ≡ true → other < 48 → nat_eq b other ≡ false
 other_byte b other e low = let bounds = digit_bounds b e in ne_eqb b other (λ same. omega arith)
 
 digits_unblank : (digits : List ℕ) → list_all is_ascii_digit digits ≡ true

@@ -127,7 +127,7 @@ fields_plain (field ∷ more) u f s =
     rw (field_plain field us.0 fs.0 ss.0, fields_plain more us.1 fs.1 ss.1) refl
 
 -- ---- words that are joined are cut again
-joined_words : (w : List ℕ) (ws : Words) → list_all is_plain (w ∷ ws) ≡ true → words SpaceTabReturn (joined (w ∷ ws)) ≡ w ∷ ws
+pub joined_words : (w : List ℕ) (ws : Words) → list_all is_plain (w ∷ ws) ≡ true → words SpaceTabReturn (joined (w ∷ ws)) ≡ w ∷ ws
 unfolding joined is_plain
 joined_words w [] e =
     let parts = both (is_plain w) true e in
@@ -137,7 +137,7 @@ joined_words w (next ∷ more) e =
     words_read_back.one SpaceTabReturn w (joined (next ∷ more)) 32 (both (is_word SpaceTabReturn w) (is_line w) parts.0).0 refl
     ∙ ap (λ rest. w ∷ rest) (joined_words next more parts.1)
 
-joined_line : (w : List ℕ) (ws : Words) → list_all is_plain (w ∷ ws) ≡ true → is_line (joined (w ∷ ws)) ≡ true
+pub joined_line : (w : List ℕ) (ws : Words) → list_all is_plain (w ∷ ws) ≡ true → is_line (joined (w ∷ ws)) ≡ true
 unfolding joined is_plain
 joined_line w [] e =
     let parts = both (is_plain w) true e in

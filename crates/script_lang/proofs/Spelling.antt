@@ -1,7 +1,7 @@
 -- Words that are put one after another.
 use Rattle.std.proofs.Common.{◌≡◌, ℕ, List, [], ◌∷◌, ◌++◌, map, flat_map, length, take, refl, ap, sym, ◌∙◌, append_assoc, arith, codes, decimal}
 use Rattle.text_words.specs.Number.{Extends}
-use Rattle.script_lang.specs.declared.printing.Word.{Word}
+use Rattle.script_lang.specs.declared.words.Word.{Word}
 use Rattle.script_lang.specs.declared.out_line.OutLine.{OutLine}
 use Rattle.script_lang.specs.declared.out_line.OutLine.TheVariants as out
 use Rattle.script_lang.specs.Line.{fields, joined, words_of}
@@ -26,6 +26,13 @@ extends_after old before blank new some e f h = record {
   more = some ++ 32 ∷ h.more;
   whole = h.whole ∙ ap (λ xs. xs ++ h.more) (f ∙ ap (λ xs. xs ++ 32 ∷ []) e) ∙ append_assoc (old ++ some) (32 ∷ []) h.more
       ∙ append_assoc old some (32 ∷ h.more);
+}
+
+-- a list that has grown by a byte, and then by more
+pub extends_one : (old before new : List ℕ) (byte : ℕ) → before ≡ old ++ byte ∷ [] → Extends before new → Extends old new
+extends_one old before new byte e h = record {
+  more = byte ∷ h.more;
+  whole = h.whole ∙ ap (λ xs. xs ++ h.more) e ∙ append_assoc old (byte ∷ []) h.more;
 }
 
 -- the line of a faulty record

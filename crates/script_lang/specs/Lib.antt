@@ -1,13 +1,13 @@
 pub mod Lists
 pub mod Line
+pub mod Writing
 pub mod Word
 pub mod Parsed
 pub mod Sound
-pub mod Writing
-pub mod Shape
 pub mod Fields
 pub mod Calls
 pub mod Header
 pub mod ScriptText
 pub mod ScriptSound
 pub mod State
+pub mod Law

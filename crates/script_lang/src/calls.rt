@@ -1,13 +1,13 @@
 //! The lines of a script's body but for those that name a file.
 
 ghost use Rattle.std.specs.Prelude.{◌≡◌, ◌≤◌, map, codes, IfOk};
-ghost use Rattle.std.specs.List.{list_any};
-ghost use Rattle.std.specs.Str.{bytes_eq};
 ghost use Rattle.script_lang.specs.Line.{is_one_of};
 ghost use Rattle.script_lang.specs.Fields.{Reads, Answers};
 ghost use Rattle.script_lang.specs.Calls.{call_names, span_of, piece_of, relink_of, no_words, journal_call, view_call, place_call, call_of};
 
-use crate::fields::{LineRefusal, one_number, owned_name, pair_of, place_by, two_numbers, whole};
+use crate::fields::{
+    LineRefusal, is_one_of, one_number, owned_name, pair_of, place_by, two_numbers, whole,
+};
 use crate::script::{Call, ScriptFault};
 use std::alloc::Global;
 use tl_model::Name;
@@ -18,12 +18,6 @@ const CALL_NAMES: [&str; 20] = [
     "insert", "overwrite", "extract", "lift", "split", "trimin", "trimout", "slip", "dissolve", "relink", "edl", "undo", "redo",
     "want", "cancel", "play", "show", "roll", "work", "export",
 ];
-
-fn is_one_of(words: &[&str], word: &[u8]) -> bool
-    ensures { result ≡ list_any (λ other. bytes_eq other.now word.now) words.now }
-{
-    words.iter().any(|other| other.as_bytes() == word)
-}
 
 /// Whether a line of a body begins with a word.
 pub fn is_call_name(word: &[u8]) -> bool

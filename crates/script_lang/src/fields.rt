@@ -1,6 +1,8 @@
 //! Words of a script's line: numbers and names.
 
 ghost use Rattle.std.specs.Prelude.{◌≡◌, ◌≤◌, ◌<◌, ◌^◌, map, IfOk};
+ghost use Rattle.std.specs.List.{list_any};
+ghost use Rattle.std.specs.Str.{bytes_eq};
 ghost use Rattle.tl_limits.specs.Limits.{max_frames};
 ghost use Rattle.script_lang.specs.Fields.{within, whole, signed, name_of, one_number, pair_of, two_numbers, place_by, one_name, Answers, Reads};
 ghost use Rattle.script_lang.specs.declared.fields.LineRefusal.TheVariants.{Fault, NoMemory};
@@ -32,6 +34,13 @@ impl From<ScriptFault> for LineRefusal {
     fn from(why: ScriptFault) -> Self {
         LineRefusal::Fault(why)
     }
+}
+
+/// Whether a word is one of a list.
+pub fn is_one_of(words: &[&str], word: &[u8]) -> bool
+    ensures { result ≡ list_any (λ other. bytes_eq other.now word.now) words.now }
+{
+    words.iter().any(|other| other.as_bytes() == word)
 }
 
 /// A number of at most 7 digits in a range.

@@ -7,6 +7,7 @@
 mod calls;
 mod fields;
 mod header;
+mod law;
 mod out_line;
 mod parsing;
 mod printing;
@@ -14,9 +15,11 @@ mod reading;
 mod script;
 mod script_reading;
 mod state;
+mod words;
 mod writing;
 
 pub use header::chroma_planes;
+pub use law::scripts_read_back;
 pub use out_line::OutLine;
 pub use printing::put_line;
 pub use reading::read_line;
@@ -26,6 +29,3 @@ pub use script::{
 };
 pub use script_reading::read_script;
 pub use writing::write_script;
-
-#[cfg(test)]
-mod tests;

@@ -4,7 +4,7 @@ use tl_model::Name;
 
 /// A line of output: the answer to one call of a script, what stopped a session, or how an export ended. Lengths and places are
 /// counted in frames, exports from 1.
-#[derive(Debug, Drop)]
+#[derive(Drop)]
 pub enum OutLine {
     /// An edit was made, and the timeline has `len` frames.
     Ok {

@@ -1,83 +1,19 @@
 //! Putting a line out.
 
-ghost use Rattle.std.specs.Prelude.{◌≡◌, [], ◌∷◌, ◌++◌, map, flat_map, decimal, codes, IsTrue, OnOk, OnErr};
-ghost use Rattle.text_words.specs.Number.{Extends};
+ghost use Rattle.std.specs.Prelude.{◌≡◌, ◌++◌, decimal, IsTrue, OnOk, OnErr};
 ghost use Rattle.script_lang.specs.Line.{is_listed, line_text, words_of, joined};
 ghost use Rattle.script_lang.specs.Word.{spelled, shape_words};
 
 use crate::out_line::OutLine;
-use itoa::Buffer;
+use crate::words::{Shape, Word, name, put_shape};
 use std::alloc::AllocError;
-use tl_model::Name;
 
 const USAGE: &str = "usage: timeline SCRIPT [--workers N] [--cache N] [--journal N]";
-
-/// What a word of a line is put from.
-#[derive(Clone, Copy)]
-enum Word<'a> {
-    Text(&'a str),
-    Number(u64),
-}
-
-/// Puts a word at the end. After a refusal the list begins as before.
-fn put_word(into: &mut Vec<u8>, word: Word<'_>) -> Result<(), AllocError>
-    ensures ok { OnOk result (into.new.items ≡ into.old.items ++ spelled word.entry) }
-    ensures err { OnErr result (Extends into.old.items into.new.items) }
-{
-    match word {
-        Word::Text(text) => into.extend_from_slice(text.as_bytes())?,
-        Word::Number(number) => {
-            let mut buffer = Buffer::new();
-            into.extend_from_slice(buffer.format(number).as_bytes())?;
-        }
-    }
-    Ok(())
-}
-
-/// Puts words at the end, each after a blank.
-fn put_more(into: &mut Vec<u8>, words: &[Word<'_>]) -> Result<(), AllocError>
-    ensures ok { OnOk result (into.new.items ≡ into.old.items ++ flat_map (λ word. 32 ∷ spelled word) words.now) }
-    ensures err { OnErr result (Extends into.old.items into.new.items) }
-{
-    for word in words {
-        into.push(b' ')?;
-        put_word(into, *word)?;
-    }
-    Ok(())
-}
-
-/// Puts a line of these words at the end.
-#[tactic(auto, unfolding(crate::specs::Line::joined), using(std::proofs::Common::append_assoc, crate::proofs::Spelling::more_spelled))]
-fn put_words(into: &mut Vec<u8>, first: &str, more: &[Word<'_>]) -> Result<(), AllocError>
-    ensures ok { OnOk result (into.new.items ≡ into.old.items ++ (joined (first.now ∷ map spelled more.now) ++ 10 ∷ [])) }
-    ensures err { OnErr result (Extends into.old.items into.new.items) }
-{
-    into.extend_from_slice(first.as_bytes())?;
-    put_more(into, more)?;
-    into.push(b'\n')?;
-    Ok(())
-}
-
-fn name(name: &Name) -> Word<'_>
-    ensures { spelled result ≡ name.now }
-{
-    Word::Text(name.as_str())
-}
 
 fn number(n: u32) -> Word<'static>
     ensures { spelled result ≡ decimal n }
 {
     Word::Number(u64::from(n))
-}
-
-/// A line: what it begins with, and the words after that.
-#[derive(Clone, Copy)]
-enum Shape<'a> {
-    Plain(&'static str),
-    One(&'static str, Word<'a>),
-    Two(&'static str, Word<'a>, Word<'a>),
-    Three(&'static str, Word<'a>, Word<'a>, Word<'a>),
-    Six(&'static str, Word<'a>, Word<'a>, Word<'a>, Word<'a>, Word<'a>, Word<'a>),
 }
 
 #[tactic(auto, unfolding(crate::specs::Line::fields, crate::specs::Line::joined))]
@@ -154,20 +90,6 @@ fn shape_of<'a>(line: &'a OutLine) -> Shape<'a>
             Word::Text("memory"),
         ),
     }
-}
-
-fn put_shape(into: &mut Vec<u8>, shape: Shape<'_>) -> Result<(), AllocError>
-    ensures ok { OnOk result (into.new.items ≡ into.old.items ++ (joined (shape_words shape.entry) ++ 10 ∷ [])) }
-    ensures err { OnErr result (Extends into.old.items into.new.items) }
-{
-    match shape {
-        Shape::Plain(text) => put_words(into, text, &[])?,
-        Shape::One(first, a) => put_words(into, first, &[a])?,
-        Shape::Two(first, a, b) => put_words(into, first, &[a, b])?,
-        Shape::Three(first, a, b, c) => put_words(into, first, &[a, b, c])?,
-        Shape::Six(first, a, b, c, d, e, f) => put_words(into, first, &[a, b, c, d, e, f])?,
-    }
-    Ok(())
 }
 
 /// Puts a line and its line feed at the end. Each word of it that says why or of what kind has to be of its list. After a refusal of memory

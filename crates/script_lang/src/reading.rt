@@ -1,7 +1,7 @@
 //! Reading a line back.
 
 ghost use Rattle.std.specs.Prelude.{◌≡◌, not, IsTrue, IfOk, IfSome, Some};
-ghost use Rattle.std.specs.List.{list_all, list_any};
+ghost use Rattle.std.specs.List.{list_all};
 ghost use Rattle.std.specs.Str.{bytes_eq};
 ghost use Rattle.text_words.specs.declared.blanks.Blanks.TheVariants.{SpaceTabReturn};
 ghost use Rattle.text_words.specs.Blanks.{is_blank};
@@ -12,6 +12,7 @@ ghost use Rattle.script_lang.specs.Parsed.{Finds};
 ghost use Rattle.script_lang.specs.Sound.{fits, is_sound, found, verified, read_text};
 ghost use Rattle.script_lang.specs.declared.out_line.OutLine.{OutLine};
 
+use crate::fields::is_one_of;
 use crate::out_line::OutLine;
 use crate::parsing::{Unread, parsed};
 use crate::printing::put_line;
@@ -54,53 +55,46 @@ const RECORD_FAULTS: [&str; 15] = [
 
 const STORE_FAULTS: [&str; 3] = ["Failed", "Missing", "TooLarge"];
 
-fn is_one_of(words: &[&str], word: &Name) -> bool
-    ensures { result ≡ list_any (λ other. bytes_eq other.now word.now) words.now }
-{
-    let word = word.as_str();
-    words.iter().any(|other| *other == word)
-}
-
 fn is_refusal(why: &Name) -> bool
     ensures { result ≡ is_one_of refusals why.now }
 {
-    is_one_of(&REFUSALS, why)
+    is_one_of(&REFUSALS, why.as_str().as_bytes())
 }
 
 fn is_edl_fault(why: &Name) -> bool
     ensures { result ≡ is_one_of edl_faults why.now }
 {
-    is_one_of(&EDL_FAULTS, why)
+    is_one_of(&EDL_FAULTS, why.as_str().as_bytes())
 }
 
 fn is_frame_fault(kind: &Name) -> bool
     ensures { result ≡ is_one_of frame_faults kind.now }
 {
-    is_one_of(&FRAME_FAULTS, kind)
+    is_one_of(&FRAME_FAULTS, kind.as_str().as_bytes())
 }
 
 fn is_line_fault(why: &Name) -> bool
     ensures { result ≡ is_one_of line_faults why.now }
 {
-    is_one_of(&LINE_FAULTS, why)
+    is_one_of(&LINE_FAULTS, why.as_str().as_bytes())
 }
 
 fn is_clip_fault(kind: &Name) -> bool
     ensures { result ≡ is_one_of clip_faults kind.now }
 {
-    is_one_of(&CLIP_FAULTS, kind)
+    is_one_of(&CLIP_FAULTS, kind.as_str().as_bytes())
 }
 
 fn is_record_fault(kind: &Name) -> bool
     ensures { result ≡ is_one_of record_faults kind.now }
 {
-    is_one_of(&RECORD_FAULTS, kind)
+    is_one_of(&RECORD_FAULTS, kind.as_str().as_bytes())
 }
 
 fn is_store_fault(kind: &Name) -> bool
     ensures { result ≡ is_one_of store_faults kind.now }
 {
-    is_one_of(&STORE_FAULTS, kind)
+    is_one_of(&STORE_FAULTS, kind.as_str().as_bytes())
 }
 
 fn is_blank(byte: u8) -> bool

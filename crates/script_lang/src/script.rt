@@ -6,7 +6,7 @@ use std::marker::Model;
 use tl_model::Name;
 
 /// A clip: its line, from 1, its name, its file, and the frame number that the timecode of its first frame is.
-#[derive(Debug, Drop)]
+#[derive(Drop)]
 pub struct ClipLine {
     pub n: u32,
     pub name: Name,
@@ -34,7 +34,7 @@ pub enum CoderWord {
 }
 
 /// The format of the timeline: that of a clip, or one of its own with a grid of slices.
-#[derive(Debug, Drop)]
+#[derive(Drop)]
 pub enum FormatLine {
     As {
         name: Name,
@@ -50,7 +50,7 @@ pub enum FormatLine {
 }
 
 /// A call of the body. Places and lengths are counted in frames.
-#[derive(Debug, Drop)]
+#[derive(Drop)]
 pub enum Call {
     Insert {
         at: u32,
@@ -128,14 +128,14 @@ pub enum Call {
 }
 
 /// A call and its line, from 1.
-#[derive(Debug, Drop)]
+#[derive(Drop)]
 pub struct BodyLine {
     pub n: u32,
     pub call: Call,
 }
 
 /// The clips of a header in the order of its lines.
-#[derive(Debug, Drop)]
+#[derive(Drop)]
 pub struct ClipLines {
     items: Vec<ClipLine>,
 }
@@ -164,7 +164,7 @@ impl ClipLines {
 }
 
 /// The calls of a body in the order of its lines.
-#[derive(Debug, Drop)]
+#[derive(Drop)]
 pub struct BodyLines {
     items: Vec<BodyLine>,
 }
@@ -193,7 +193,7 @@ impl BodyLines {
 }
 
 /// A script: how many frames a second has, and its lines.
-#[derive(Debug, Drop)]
+#[derive(Drop)]
 pub struct Script {
     pub rate: u32,
     pub clips: ClipLines,

@@ -20,12 +20,14 @@ abbrev pub is_word : Blanks → List ℕ → Bool
 is_word blanks word = not (length word == 0) && list_all (λ byte. not (is_blank blanks byte)) word
 
 pub record WordsReadBack : Type 0 where
-  pub one : (blanks : Blanks) (word rest : List ℕ) (byte : ℕ) → IsTrue (is_word blanks word) → IsTrue (is_blank blanks byte) → words blanks (word ++ byte ∷ rest) ≡ word ∷ words blanks rest
+  pub one : (blanks : Blanks) (word rest : List ℕ) (byte : ℕ) → IsTrue (is_word blanks word) → IsTrue (is_blank blanks byte)
+      → words blanks (word ++ byte ∷ rest) ≡ word ∷ words blanks rest
   pub last : (blanks : Blanks) (word : List ℕ) → IsTrue (is_word blanks word) → words blanks word ≡ word ∷ []
   pub blank : (blanks : Blanks) (rest : List ℕ) (byte : ℕ) → IsTrue (is_blank blanks byte) → words blanks (byte ∷ rest) ≡ words blanks rest
 
 abbrev pub NumbersReadBack : Type 0
-NumbersReadBack = (most least low high n : ℕ) → 1 ≤ least → least ≤ most → n < 10 ^ most → low ≤ n → n ≤ high → number most low high (number_text least n) ≡ Some n
+NumbersReadBack = (most least low high n : ℕ) → 1 ≤ least → least ≤ most → n < 10 ^ most → low ≤ n → n ≤ high
+    → number most low high (number_text least n) ≡ Some n
 
 abbrev pub TimecodesReadBack : Type 0
 TimecodesReadBack = (rate frame : ℕ) → IsRate rate → frame < 86400 * rate → timecode rate (timecode_text rate frame) ≡ Some frame

@@ -31,4 +31,5 @@ timecode rate other = None
 unfoldable pub timecode_text : (rate frame : ℕ) → List ℕ
 timecode_text rate frame =
     let seconds = frame / rate in
-    number_text 2 (seconds / 3600) ++ codes ":" ++ number_text 2 (seconds / 60 % 60) ++ codes ":" ++ number_text 2 (seconds % 60) ++ codes ":" ++ number_text 2 (frame % rate)
+    number_text 2 (seconds / 3600) ++ codes ":" ++ number_text 2 (seconds / 60 % 60) ++ codes ":"
+    ++ number_text 2 (seconds % 60) ++ codes ":" ++ number_text 2 (frame % rate)

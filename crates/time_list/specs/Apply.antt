@@ -35,14 +35,19 @@ first_of ((holds, why) ∷ reasons) = if holds then Some why else first_of reaso
 -- Why frames can't be taken; `early` where one comes before its clip's first.
 abbrev pub not_taken : {F : Type 0} → Library F → List Side → Bool → List (Bool × EditRefusal)
 not_taken lib sides early =
-    (list_any (names_no_clip lib) sides, refusal.NoClip) ∷ (list_any (differs lib) sides, refusal.ShapeDiffers) ∷ (early || list_any (is_late lib) sides, refusal.OutsideClip) ∷ []
+    (list_any (names_no_clip lib) sides, refusal.NoClip) ∷ (list_any (differs lib) sides, refusal.ShapeDiffers)
+    ∷ (early || list_any (is_late lib) sides, refusal.OutsideClip) ∷ []
 
 -- What stands against an edit itself, and against what it would make.
 abbrev pub against : {F : Type 0} → Library F → Proposal → List (Bool × EditRefusal)
-against lib p = (p.past_end, refusal.PastEnd) ∷ (p.no_cut, refusal.NoCut) ∷ (not_taken lib p.taken p.early ++ (p.too_long, refusal.MixTooLong) ∷ [])
+against lib p =
+    (p.past_end, refusal.PastEnd) ∷ (p.no_cut, refusal.NoCut)
+    ∷ (not_taken lib p.taken p.early ++ (p.too_long, refusal.MixTooLong) ∷ [])
 
 abbrev pub too_large : List Cell → List (Bool × EditRefusal)
-too_large line = (nat_lt max_frames (length line), refusal.TooManyFrames) ∷ (nat_lt max_segments (segment_count line), refusal.TooManySegments) ∷ []
+too_large line =
+    (nat_lt max_frames (length line), refusal.TooManyFrames)
+    ∷ (nat_lt max_segments (segment_count line), refusal.TooManySegments) ∷ []
 
 abbrev pub unless : {A : Type 0} → Option EditRefusal → A → Result A EditRefusal
 unless None value = Ok value

@@ -5,4 +5,3 @@ pub mod Apply
 pub mod Pieces
 pub mod Changes
 pub mod Found
-pub mod Twenties

@@ -19,7 +19,10 @@ front_mix (Some mix) at = Some (record { from = mix.from; done = mix.done; steps
 
 abbrev pub back_mix : Option Mix → ℕ → Option Mix
 back_mix None at = None
-back_mix (Some mix) at = if nat_lt at mix.steps then Some (record { from = side_at mix.from at; done = mix.done + at; steps = mix.steps - at; total = mix.total }) else None
+back_mix (Some mix) at =
+    if nat_lt at mix.steps
+    then Some (record { from = side_at mix.from at; done = mix.done + at; steps = mix.steps - at; total = mix.total })
+    else None
 
 -- The two parts of a segment that is cut before its frame `at`.
 abbrev pub front_of : Segment → ℕ → Segment

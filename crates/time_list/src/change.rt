@@ -53,7 +53,8 @@ pub(crate) fn between(
     requires last { IsCutAt items.now (last.start + last.offset) last }
     requires order { first.index ≤ last.index }
     requires new { ArePieces new.now }
-    ensures { IfOk result (λ change. IsChangeTo items.now (take (first.start + first.offset) (cells items.now) ++ cells new.now ++ headed (drop (last.start + last.offset) (cells items.now))) change) }
+    ensures { IfOk result (λ change. IsChangeTo items.now (take (first.start + first.offset) (cells items.now)
+        ++ cells new.now ++ headed (drop (last.start + last.offset) (cells items.now))) change) }
 {
     let mut put = Vec::with_capacity(alloc, 3)?;
     push_front(items, first, &mut put)?;
@@ -78,7 +79,8 @@ pub(crate) fn put_segment(
     requires start { cut.start ≡ length (cells (take cut.index items.now)) }
     requires within { cut.index < length items.now }
     requires new { IsPiece new }
-    ensures { IfOk result (λ change. IsChangeTo items.now (cells (take cut.index items.now) ++ cells_of new ++ cells (drop (cut.index + 1) items.now)) change) }
+    ensures { IfOk result (λ change. IsChangeTo items.now
+        (cells (take cut.index items.now) ++ cells_of new ++ cells (drop (cut.index + 1) items.now)) change) }
 {
     let mut put = Vec::with_capacity(alloc, 1)?;
     put.push(new)?;

@@ -58,7 +58,8 @@ pub(crate) fn uses(items: &[Segment], recipe: Recipe) -> bool
 pub(crate) fn cut_after(items: &[Segment], from: Cut, by: u32) -> Option<Cut>
     requires fits { from.start + from.offset + by < 2 ^ 32 }
     requires cut { IsCutAt items.now (from.start + from.offset) from }
-    ensures { MatchOption result (length (cells items.now) < from.start + from.offset + by) (λ cut. IsCutAt items.now (from.start + from.offset + by) cut × (from.index ≤ cut.index)) }
+    ensures { MatchOption result (length (cells items.now) < from.start + from.offset + by)
+        (λ cut. IsCutAt items.now (from.start + from.offset + by) cut × (from.index ≤ cut.index)) }
 {
     let mut start = from.start;
     let mut offset = from.offset + by;
@@ -140,7 +141,8 @@ pub(crate) fn push_back(
     requires within { cut.index ≤ length items.now }
     requires inside { IsInside cut.offset (drop cut.index items.now) }
     requires pieces { ArePieces items.now }
-    ensures next { IfOk result (λ next. into.new.items ++ drop next items.now ≡ into.old.items ++ backs (drop cut.index items.now) cut.offset) }
+    ensures next { IfOk result (λ next. into.new.items ++ drop next items.now
+        ≡ into.old.items ++ backs (drop cut.index items.now) cut.offset) }
     ensures order { IfOk result (λ next. cut.index ≤ next) }
     ensures within { IfOk result (λ next. next ≤ length items.now) }
 {

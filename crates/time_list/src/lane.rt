@@ -75,7 +75,8 @@ pub trait Lane: Drop {
 /// Tells, in a proof, that an accepted edit keeps a sound timeline sound. It does nothing.
 pub fn keeps_sound<M: Media>(media: &M, edit: &Edit)
     requires { IsEdit edit.now }
-    ensures { (line after : List Cell) → IsSound (M.library media.now) line → apply (M.library media.now) edit.now line ≡ Ok after → IsSound (M.library media.now) after }
+    ensures { (line after : List Cell) → IsSound (M.library media.now) line
+        → apply (M.library media.now) edit.now line ≡ Ok after → IsSound (M.library media.now) after }
 {
     let _ = media;
     let _ = edit;

@@ -94,7 +94,8 @@ fn give_way(
     requires pieces { ArePieces items.now }
     requires new { ArePieces new.now }
     requires fits { at + len < 2 ^ 32 }
-    ensures { Rearranges items.now (rearranged (nat_lt (length (cells items.now)) (at + len)) (take at (cells items.now) ++ cells new.now ++ headed (drop (at + len) (cells items.now)))) result }
+    ensures { Rearranges items.now (rearranged (nat_lt (length (cells items.now)) (at + len))
+        (take at (cells items.now) ++ cells new.now ++ headed (drop (at + len) (cells items.now)))) result }
 {
     let cut = match cut_at(items, at) {
         Some(cut) => cut,

@@ -1,80 +1,97 @@
 //! Each edit and each of its refusals, with the patches that lead back.
 
 mod line;
-mod twenties;
 
 use crate::lane::{Lane, recipe_in};
 use line::{Outcome, Run, many, play, play_replacements, segments_of, start};
 use tl_model::{Edit, EditRefusal, Recipe, Side};
 
-/// Ten frames of the first clip, ten of the second that dissolve in over four, and six of black.
-const LINE: [Run; 3] = [
-    (Some((0, 0)), 10, None),
-    (Some((1, 5)), 10, Some((Some((0, 10)), 0, 4, 4))),
-    (None, 6, None),
-];
+/// Ten frames of the first clip.
+const FIRST: Run = (Some((0, 0)), 10, None);
+
+/// Ten frames of the second clip, which dissolve in over four.
+const SECOND: Run = (Some((1, 5)), 10, Some((Some((0, 10)), 0, 4, 4)));
+
+/// Six frames of black.
+const LAST: Run = (None, 6, None);
+
+/// The timeline that is edited.
+const LINE: [Run; 3] = [FIRST, SECOND, LAST];
 
 /// Each edit of that timeline, and each refusal of each.
 #[rattlefmt::skip]
 const EDITS: [(Edit, Outcome); 60] = [
-    (Edit::Insert { at: 5, take: Side::Clip { clip: 0, frame: 12 }, len: 3 }, Outcome::Makes(&[(Some((0, 0)), 5, None), (Some((0, 12)), 3, None), (Some((0, 5)), 5, None), (Some((1, 5)), 10, Some((Some((0, 10)), 0, 4, 4))), (None, 6, None)])),
-    (Edit::Insert { at: 12, take: Side::Black, len: 1 }, Outcome::Makes(&[(Some((0, 0)), 10, None), (Some((1, 5)), 2, Some((Some((0, 10)), 0, 2, 4))), (None, 1, None), (Some((1, 7)), 8, Some((Some((0, 12)), 2, 2, 4))), (None, 6, None)])),
-    (Edit::Insert { at: 26, take: Side::Clip { clip: 1, frame: 0 }, len: 20 }, Outcome::Makes(&[(Some((0, 0)), 10, None), (Some((1, 5)), 10, Some((Some((0, 10)), 0, 4, 4))), (None, 6, None), (Some((1, 0)), 20, None)])),
+    (Edit::Insert { at: 5, take: Side::Clip { clip: 0, frame: 12 }, len: 3 },
+        Outcome::Makes(&[(Some((0, 0)), 5, None), (Some((0, 12)), 3, None), (Some((0, 5)), 5, None), SECOND, LAST])),
+    (Edit::Insert { at: 12, take: Side::Black, len: 1 },
+        Outcome::Makes(&[
+            FIRST, (Some((1, 5)), 2, Some((Some((0, 10)), 0, 2, 4))), (None, 1, None),
+            (Some((1, 7)), 8, Some((Some((0, 12)), 2, 2, 4))), LAST,
+        ])),
+    (Edit::Insert { at: 26, take: Side::Clip { clip: 1, frame: 0 }, len: 20 },
+        Outcome::Makes(&[FIRST, SECOND, LAST, (Some((1, 0)), 20, None)])),
     (Edit::Insert { at: 27, take: Side::Black, len: 1 }, Outcome::Refuses(EditRefusal::PastEnd)),
-    (Edit::Insert { at: 27, take: Side::Clip { clip: 3, frame: 0 }, len: 1 }, Outcome::Refuses(EditRefusal::PastEnd)),
-    (Edit::Insert { at: 0, take: Side::Clip { clip: 3, frame: 0 }, len: 1 }, Outcome::Refuses(EditRefusal::NoClip)),
+    (Edit::Insert { at: 27, take: Side::Clip { clip: 4, frame: 0 }, len: 1 }, Outcome::Refuses(EditRefusal::PastEnd)),
+    (Edit::Insert { at: 0, take: Side::Clip { clip: 4, frame: 0 }, len: 1 }, Outcome::Refuses(EditRefusal::NoClip)),
     (Edit::Insert { at: 0, take: Side::Clip { clip: 2, frame: 20 }, len: 1 }, Outcome::Refuses(EditRefusal::ShapeDiffers)),
     (Edit::Insert { at: 0, take: Side::Clip { clip: 0, frame: 15 }, len: 6 }, Outcome::Refuses(EditRefusal::OutsideClip)),
     (Edit::Insert { at: 0, take: Side::Clip { clip: 0, frame: 0 }, len: 1_000_000 }, Outcome::Refuses(EditRefusal::OutsideClip)),
     (Edit::Insert { at: 0, take: Side::Black, len: 999_975 }, Outcome::Refuses(EditRefusal::TooManyFrames)),
-    (Edit::Extract { at: 8, len: 4 }, Outcome::Makes(&[(Some((0, 0)), 8, None), (Some((1, 7)), 8, Some((Some((0, 12)), 2, 2, 4))), (None, 6, None)])),
+    (Edit::Extract { at: 8, len: 4 }, Outcome::Makes(&[(Some((0, 0)), 8, None), (Some((1, 7)), 8, Some((Some((0, 12)), 2, 2, 4))), LAST])),
     (Edit::Extract { at: 0, len: 26 }, Outcome::Makes(&[])),
     (Edit::Extract { at: 25, len: 2 }, Outcome::Refuses(EditRefusal::PastEnd)),
-    (Edit::Overwrite { at: 22, take: Side::Clip { clip: 1, frame: 0 }, len: 5 }, Outcome::Makes(&[(Some((0, 0)), 10, None), (Some((1, 5)), 10, Some((Some((0, 10)), 0, 4, 4))), (None, 2, None), (Some((1, 0)), 5, None)])),
-    (Edit::Overwrite { at: 9, take: Side::Clip { clip: 0, frame: 0 }, len: 2 }, Outcome::Makes(&[(Some((0, 0)), 9, None), (Some((0, 0)), 2, None), (Some((1, 6)), 9, Some((Some((0, 11)), 1, 3, 4))), (None, 6, None)])),
-    (Edit::Overwrite { at: 25, take: Side::Black, len: 999_975 }, Outcome::Makes(&[(Some((0, 0)), 10, None), (Some((1, 5)), 10, Some((Some((0, 10)), 0, 4, 4))), (None, 5, None), (None, 999_975, None)])),
+    (Edit::Overwrite { at: 22, take: Side::Clip { clip: 1, frame: 0 }, len: 5 },
+        Outcome::Makes(&[FIRST, SECOND, (None, 2, None), (Some((1, 0)), 5, None)])),
+    (Edit::Overwrite { at: 9, take: Side::Clip { clip: 0, frame: 0 }, len: 2 },
+        Outcome::Makes(&[(Some((0, 0)), 9, None), (Some((0, 0)), 2, None), (Some((1, 6)), 9, Some((Some((0, 11)), 1, 3, 4))), LAST])),
+    (Edit::Overwrite { at: 25, take: Side::Black, len: 999_975 }, Outcome::Makes(&[FIRST, SECOND, (None, 5, None), (None, 999_975, None)])),
     (Edit::Overwrite { at: 27, take: Side::Black, len: 1 }, Outcome::Refuses(EditRefusal::PastEnd)),
-    (Edit::Overwrite { at: 0, take: Side::Clip { clip: 3, frame: 0 }, len: 1 }, Outcome::Refuses(EditRefusal::NoClip)),
+    (Edit::Overwrite { at: 0, take: Side::Clip { clip: 4, frame: 0 }, len: 1 }, Outcome::Refuses(EditRefusal::NoClip)),
     (Edit::Overwrite { at: 0, take: Side::Clip { clip: 2, frame: 0 }, len: 1 }, Outcome::Refuses(EditRefusal::ShapeDiffers)),
     (Edit::Overwrite { at: 0, take: Side::Clip { clip: 1, frame: 16 }, len: 5 }, Outcome::Refuses(EditRefusal::OutsideClip)),
     (Edit::Overwrite { at: 26, take: Side::Black, len: 999_975 }, Outcome::Refuses(EditRefusal::TooManyFrames)),
-    (Edit::Lift { at: 9, len: 2 }, Outcome::Makes(&[(Some((0, 0)), 9, None), (None, 2, None), (Some((1, 6)), 9, Some((Some((0, 11)), 1, 3, 4))), (None, 6, None)])),
+    (Edit::Lift { at: 9, len: 2 },
+        Outcome::Makes(&[(Some((0, 0)), 9, None), (None, 2, None), (Some((1, 6)), 9, Some((Some((0, 11)), 1, 3, 4))), LAST])),
     (Edit::Lift { at: 25, len: 2 }, Outcome::Refuses(EditRefusal::PastEnd)),
-    (Edit::Split { at: 12 }, Outcome::Makes(&[(Some((0, 0)), 10, None), (Some((1, 5)), 2, Some((Some((0, 10)), 0, 2, 4))), (Some((1, 7)), 8, Some((Some((0, 12)), 2, 2, 4))), (None, 6, None)])),
-    (Edit::Split { at: 10 }, Outcome::Makes(&[(Some((0, 0)), 10, None), (Some((1, 5)), 10, Some((Some((0, 10)), 0, 4, 4))), (None, 6, None)])),
+    (Edit::Split { at: 12 },
+        Outcome::Makes(&[
+            FIRST, (Some((1, 5)), 2, Some((Some((0, 10)), 0, 2, 4))),
+            (Some((1, 7)), 8, Some((Some((0, 12)), 2, 2, 4))), LAST,
+        ])),
+    (Edit::Split { at: 10 }, Outcome::Makes(&[FIRST, SECOND, LAST])),
     (Edit::Split { at: 26 }, Outcome::Refuses(EditRefusal::PastEnd)),
-    (Edit::TrimIn { at: 19, by: 3 }, Outcome::Makes(&[(Some((0, 0)), 10, None), (Some((1, 8)), 7, Some((Some((0, 13)), 3, 1, 4))), (None, 6, None)])),
-    (Edit::TrimIn { at: 12, by: 4 }, Outcome::Makes(&[(Some((0, 0)), 10, None), (Some((1, 9)), 6, None), (None, 6, None)])),
-    (Edit::TrimIn { at: 12, by: -2 }, Outcome::Makes(&[(Some((0, 0)), 10, None), (Some((1, 3)), 12, None), (None, 6, None)])),
-    (Edit::TrimIn { at: 12, by: 0 }, Outcome::Makes(&[(Some((0, 0)), 10, None), (Some((1, 5)), 10, Some((Some((0, 10)), 0, 4, 4))), (None, 6, None)])),
+    (Edit::TrimIn { at: 19, by: 3 }, Outcome::Makes(&[FIRST, (Some((1, 8)), 7, Some((Some((0, 13)), 3, 1, 4))), LAST])),
+    (Edit::TrimIn { at: 12, by: 4 }, Outcome::Makes(&[FIRST, (Some((1, 9)), 6, None), LAST])),
+    (Edit::TrimIn { at: 12, by: -2 }, Outcome::Makes(&[FIRST, (Some((1, 3)), 12, None), LAST])),
+    (Edit::TrimIn { at: 12, by: 0 }, Outcome::Makes(&[FIRST, SECOND, LAST])),
     (Edit::TrimIn { at: 26, by: 0 }, Outcome::Refuses(EditRefusal::PastEnd)),
     (Edit::TrimIn { at: 12, by: 10 }, Outcome::Refuses(EditRefusal::PastEnd)),
     (Edit::TrimIn { at: 12, by: -6 }, Outcome::Refuses(EditRefusal::OutsideClip)),
     (Edit::TrimIn { at: 20, by: -999_975 }, Outcome::Refuses(EditRefusal::TooManyFrames)),
-    (Edit::TrimOut { at: 12, by: 7 }, Outcome::Makes(&[(Some((0, 0)), 10, None), (Some((1, 5)), 3, Some((Some((0, 10)), 0, 3, 4))), (None, 6, None)])),
-    (Edit::TrimOut { at: 3, by: -2 }, Outcome::Makes(&[(Some((0, 0)), 12, None), (Some((1, 5)), 10, Some((Some((0, 10)), 0, 4, 4))), (None, 6, None)])),
+    (Edit::TrimOut { at: 12, by: 7 }, Outcome::Makes(&[FIRST, (Some((1, 5)), 3, Some((Some((0, 10)), 0, 3, 4))), LAST])),
+    (Edit::TrimOut { at: 3, by: -2 }, Outcome::Makes(&[(Some((0, 0)), 12, None), SECOND, LAST])),
     (Edit::TrimOut { at: 26, by: 0 }, Outcome::Refuses(EditRefusal::PastEnd)),
     (Edit::TrimOut { at: 12, by: 10 }, Outcome::Refuses(EditRefusal::PastEnd)),
     (Edit::TrimOut { at: 12, by: -6 }, Outcome::Refuses(EditRefusal::OutsideClip)),
     (Edit::TrimOut { at: 25, by: -999_975 }, Outcome::Refuses(EditRefusal::TooManyFrames)),
-    (Edit::Slip { at: 12, by: 5 }, Outcome::Makes(&[(Some((0, 0)), 10, None), (Some((1, 10)), 10, Some((Some((0, 10)), 0, 4, 4))), (None, 6, None)])),
-    (Edit::Slip { at: 12, by: -5 }, Outcome::Makes(&[(Some((0, 0)), 10, None), (Some((1, 0)), 10, Some((Some((0, 10)), 0, 4, 4))), (None, 6, None)])),
+    (Edit::Slip { at: 12, by: 5 }, Outcome::Makes(&[FIRST, (Some((1, 10)), 10, Some((Some((0, 10)), 0, 4, 4))), LAST])),
+    (Edit::Slip { at: 12, by: -5 }, Outcome::Makes(&[FIRST, (Some((1, 0)), 10, Some((Some((0, 10)), 0, 4, 4))), LAST])),
     (Edit::Slip { at: 26, by: 0 }, Outcome::Refuses(EditRefusal::PastEnd)),
     (Edit::Slip { at: 12, by: 6 }, Outcome::Refuses(EditRefusal::OutsideClip)),
     (Edit::Slip { at: 12, by: -6 }, Outcome::Refuses(EditRefusal::OutsideClip)),
-    (Edit::Dissolve { at: 10, len: 2 }, Outcome::Makes(&[(Some((0, 0)), 10, None), (Some((1, 5)), 10, Some((Some((0, 10)), 0, 2, 2))), (None, 6, None)])),
-    (Edit::Dissolve { at: 10, len: 10 }, Outcome::Makes(&[(Some((0, 0)), 10, None), (Some((1, 5)), 10, Some((Some((0, 10)), 0, 10, 10))), (None, 6, None)])),
-    (Edit::Dissolve { at: 20, len: 5 }, Outcome::Makes(&[(Some((0, 0)), 10, None), (Some((1, 5)), 10, Some((Some((0, 10)), 0, 4, 4))), (None, 6, Some((Some((1, 15)), 0, 5, 5)))])),
-    (Edit::Dissolve { at: 10, len: 0 }, Outcome::Makes(&[(Some((0, 0)), 10, None), (Some((1, 5)), 10, None), (None, 6, None)])),
+    (Edit::Dissolve { at: 10, len: 2 }, Outcome::Makes(&[FIRST, (Some((1, 5)), 10, Some((Some((0, 10)), 0, 2, 2))), LAST])),
+    (Edit::Dissolve { at: 10, len: 10 }, Outcome::Makes(&[FIRST, (Some((1, 5)), 10, Some((Some((0, 10)), 0, 10, 10))), LAST])),
+    (Edit::Dissolve { at: 20, len: 5 }, Outcome::Makes(&[FIRST, SECOND, (None, 6, Some((Some((1, 15)), 0, 5, 5)))])),
+    (Edit::Dissolve { at: 10, len: 0 }, Outcome::Makes(&[FIRST, (Some((1, 5)), 10, None), LAST])),
     (Edit::Dissolve { at: 26, len: 1 }, Outcome::Refuses(EditRefusal::PastEnd)),
     (Edit::Dissolve { at: 0, len: 4 }, Outcome::Refuses(EditRefusal::NoCut)),
     (Edit::Dissolve { at: 5, len: 0 }, Outcome::Refuses(EditRefusal::NoCut)),
     (Edit::Dissolve { at: 20, len: 6 }, Outcome::Refuses(EditRefusal::OutsideClip)),
     (Edit::Dissolve { at: 10, len: 11 }, Outcome::Refuses(EditRefusal::MixTooLong)),
-    (Edit::Relink { at: 12, clip: 0, first: 10 }, Outcome::Makes(&[(Some((0, 0)), 10, None), (Some((0, 10)), 10, Some((Some((0, 10)), 0, 4, 4))), (None, 6, None)])),
-    (Edit::Relink { at: 20, clip: 1, first: 14 }, Outcome::Makes(&[(Some((0, 0)), 10, None), (Some((1, 5)), 10, Some((Some((0, 10)), 0, 4, 4))), (Some((1, 14)), 6, None)])),
+    (Edit::Relink { at: 12, clip: 0, first: 10 }, Outcome::Makes(&[FIRST, (Some((0, 10)), 10, Some((Some((0, 10)), 0, 4, 4))), LAST])),
+    (Edit::Relink { at: 20, clip: 1, first: 14 }, Outcome::Makes(&[FIRST, SECOND, (Some((1, 14)), 6, None)])),
     (Edit::Relink { at: 26, clip: 0, first: 0 }, Outcome::Refuses(EditRefusal::PastEnd)),
-    (Edit::Relink { at: 0, clip: 3, first: 0 }, Outcome::Refuses(EditRefusal::NoClip)),
+    (Edit::Relink { at: 0, clip: 4, first: 0 }, Outcome::Refuses(EditRefusal::NoClip)),
     (Edit::Relink { at: 0, clip: 2, first: 0 }, Outcome::Refuses(EditRefusal::ShapeDiffers)),
     (Edit::Relink { at: 12, clip: 0, first: 11 }, Outcome::Refuses(EditRefusal::OutsideClip)),
 ];
@@ -85,8 +102,8 @@ const REPLACEMENTS: [(&[Run], Option<EditRefusal>); 11] = [
     (&[(Some((1, 0)), 2, None), (Some((0, 0)), 3, Some((None, 1, 2, 5)))], None),
     (&[], None),
     (&[(None, 1_000_000, None)], None),
-    (&[(Some((3, 0)), 1, None)], Some(EditRefusal::NoClip)),
-    (&[(Some((1, 0)), 4, Some((Some((3, 0)), 0, 1, 1)))], Some(EditRefusal::NoClip)),
+    (&[(Some((4, 0)), 1, None)], Some(EditRefusal::NoClip)),
+    (&[(Some((1, 0)), 4, Some((Some((4, 0)), 0, 1, 1)))], Some(EditRefusal::NoClip)),
     (&[(Some((2, 0)), 1, None)], Some(EditRefusal::ShapeDiffers)),
     (&[(Some((0, 15)), 6, None)], Some(EditRefusal::OutsideClip)),
     (&[(Some((1, 0)), 4, Some((Some((0, 17)), 0, 4, 4)))], Some(EditRefusal::OutsideClip)),

@@ -29,7 +29,10 @@ side_at (side.Clip clip frame) n = side.Clip clip (frame + n)
 
 abbrev pub mix_at : Option Mix → ℕ → Option CellMix
 mix_at None n = None
-mix_at (Some mix) n = if nat_lt n mix.steps then Some (record { from = side_at mix.from n; step = mix.done + n + 1; total = mix.total }) else None
+mix_at (Some mix) n =
+    if nat_lt n mix.steps
+    then Some (record { from = side_at mix.from n; step = mix.done + n + 1; total = mix.total })
+    else None
 
 -- The cell of frame n of a segment.
 abbrev pub cell_at : Segment → ℕ → Cell

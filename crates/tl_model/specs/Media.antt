@@ -64,11 +64,15 @@ kind_of (Err fault) = Err fault.kind
 pub record IsLibrary {F : Type 0} (lib : Library F) : Type 0 where
   pub black : IsOk (lib.render recipe.Black)
   -- the fault of a frame names the frame
-  pub placed : (clip frame : ℕ) (fault : RenderFault) → CanRender lib (recipe.Source clip frame) → lib.render (recipe.Source clip frame) ≡ Err fault → (fault.clip ≡ clip) × (fault.frame ≡ frame)
+  pub placed : (clip frame : ℕ) (fault : RenderFault) → CanRender lib (recipe.Source clip frame)
+      → lib.render (recipe.Source clip frame) ≡ Err fault → (fault.clip ≡ clip) × (fault.frame ≡ frame)
   pub shaped : (recipe : Recipe) (frame : F) → CanRender lib recipe → lib.render recipe ≡ Ok frame → IsTrue (lib.has_shape frame)
-  pub mixed : (from to : Side) (weight : ℕ) → CanRender lib (recipe.Mix from to weight) → MixFaults (lib.render (alone from)) (lib.render (alone to)) (lib.render (recipe.Mix from to weight))
-  pub read_back : (frame : F) (packet : List ℕ) → IsTrue (lib.has_shape frame) → lib.coded frame ≡ Some packet → lib.unpacked packet ≡ Ok frame
-  pub copied : (clip frame : ℕ) → clip < lib.clips → frame < lib.frames clip → IsTrue (lib.fits clip) → IsTrue (lib.copies clip) → lib.unpacked (lib.packet clip frame) ≡ kind_of (lib.render (recipe.Source clip frame))
+  pub mixed : (from to : Side) (weight : ℕ) → CanRender lib (recipe.Mix from to weight)
+      → MixFaults (lib.render (alone from)) (lib.render (alone to)) (lib.render (recipe.Mix from to weight))
+  pub read_back : (frame : F) (packet : List ℕ) → IsTrue (lib.has_shape frame) → lib.coded frame ≡ Some packet
+      → lib.unpacked packet ≡ Ok frame
+  pub copied : (clip frame : ℕ) → clip < lib.clips → frame < lib.frames clip → IsTrue (lib.fits clip) → IsTrue (lib.copies clip)
+      → lib.unpacked (lib.packet clip frame) ≡ kind_of (lib.render (recipe.Source clip frame))
 
 -- What a picked value stands for.
 abbrev pub outcome_of : {F : Type 0} → Picked F → Result F RenderFault

@@ -10,7 +10,8 @@ use crate::media::Media;
 
 /// Tells, in a proof, that the recipe of each frame of a sound timeline can be rendered. It does nothing.
 pub fn sound_frames_render<M: Media>(media: &M)
-    ensures { (line : List Cell) (n : ℕ) (recipe : Recipe) → IsSound (M.library media.now) line → slice_get (recipes line) n ≡ Some recipe → CanRender (M.library media.now) recipe }
+    ensures { (line : List Cell) (n : ℕ) (recipe : Recipe) → IsSound (M.library media.now) line
+        → slice_get (recipes line) n ≡ Some recipe → CanRender (M.library media.now) recipe }
 {
     let _ = media;
 }

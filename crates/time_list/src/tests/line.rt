@@ -3,14 +3,14 @@
 ghost use Rattle.std.specs.Prelude.{◌≡◌, OnOk, OnErr, IfOk};
 ghost use Rattle.tl_model.specs.Sound.{IsSound};
 ghost use Rattle.time_list.specs.Patch.{IsPatchOf, LeadsBack, patched};
-ghost use Rattle.time_list.specs.Twenties.{twenties};
+ghost use Rattle.test_media.specs.Numbers.{numbers};
 
-use super::twenties::Twenties;
 use crate::lane::{ApplyFault, Lane, keeps_sound};
 use crate::list_lane::ListLane;
 use crate::patch::Patch;
 use std::alloc::Global;
 use std::process::Abort;
+use test_media::Numbers;
 use tl_model::{Edit, EditRefusal, Mix, Segment, Segments, Side};
 
 /// A side by its clip and frame, black by none.
@@ -75,14 +75,14 @@ fn make(
     lane: &mut ListLane,
     edit: &Edit,
 ) -> Result<Patch, EditRefusal>
-    requires { IsSound twenties lane.old }
+    requires { IsSound numbers lane.old }
     ensures made { IfOk result (λ patch. LeadsBack patch lane.new lane.old) }
     ensures refused { OnErr result (lane.new ≡ lane.old) }
-    ensures sound { IsSound twenties lane.new }
+    ensures sound { IsSound numbers lane.new }
 {
     assert!(rt; edit.is_well_formed());
-    keeps_sound(&Twenties, edit);
-    match lane.apply(alloc, &Twenties, edit) {
+    keeps_sound(&Numbers, edit);
+    match lane.apply(alloc, &Numbers, edit) {
         Ok(patch) => Ok(patch),
         Err(ApplyFault::Refused(why)) => Err(why),
         Err(ApplyFault::NoMemory) => panic!(rt; "memory"),
@@ -103,7 +103,7 @@ fn turn(rt: &impl Abort, alloc: Global, lane: &mut ListLane, patch: Patch) -> Pa
 
 /// A timeline of these segments.
 pub(super) fn start(rt: &impl Abort, alloc: Global, segments: Segments) -> ListLane
-    ensures { IsSound twenties result }
+    ensures { IsSound numbers result }
 {
     let mut lane = ListLane::blank(alloc);
     assert!(rt; make(rt, alloc, &mut lane, &Edit::Replace { segments }).is_ok());
@@ -118,7 +118,7 @@ fn make_and_take_back(
     edit: &Edit,
     before: &Segments,
 ) -> Result<Segments, EditRefusal>
-    requires { IsSound twenties lane.old }
+    requires { IsSound numbers lane.old }
     ensures { lane.new ≡ lane.old }
 {
     let patch = match make(rt, alloc, lane, edit) {
@@ -159,8 +159,8 @@ fn replace(
     before: &Segments,
     segments: Segments,
 ) -> Option<EditRefusal>
-    requires { IsSound twenties lane.old }
-    ensures { IsSound twenties lane.new }
+    requires { IsSound numbers lane.old }
+    ensures { IsSound numbers lane.new }
 {
     let wanted = segments.copy(alloc).expect(rt, "memory");
     let edit = Edit::Replace { segments };

@@ -5,7 +5,7 @@ use Rattle.tl_model.specs.declared.edit.EditRefusal.{EditRefusal}
 use Rattle.time_list.specs.declared.lane.ApplyFault.TheVariants as fault
 use Rattle.time_list.specs.Apply.{apply, Applies}
 use Rattle.time_list.specs.Patch.{PatchOf, LeadsBack}
-use Rattle.time_list.specs.Twenties.{twenties}
+use Rattle.test_media.specs.Numbers.{numbers}
 use Rattle.time_list.proofs.tests.line.make.Goals as goal
 
 applied : (made : Result (List Cell) EditRefusal) (old new : List Cell) (patch : PatchOf) → Applies made old new (Ok patch) → (made ≡ Ok new) × LeadsBack patch new old
@@ -18,17 +18,17 @@ refused (Err given) old new why h = h.1
 
 pub returns-in-Ok-clause-made : goal.returns-in-Ok-clause-made
 returns-in-Ok-clause-made g c =
-    (applied (apply twenties c.args.edit.now c.args.lane.now) c.args.lane.now c.apply.new.self c.in-Ok.patch c.in-Ok.ensures).1
+    (applied (apply numbers c.args.edit.now c.args.lane.now) c.args.lane.now c.apply.new.self c.in-Ok.patch c.in-Ok.ensures).1
 
 pub returns-in-Ok-clause-sound : goal.returns-in-Ok-clause-sound
 returns-in-Ok-clause-sound g c =
     c.keeps_sound.ensures c.args.lane.now c.apply.new.self c.requires
-    (applied (apply twenties c.args.edit.now c.args.lane.now) c.args.lane.now c.apply.new.self c.in-Ok.patch c.in-Ok.ensures).0
+    (applied (apply numbers c.args.edit.now c.args.lane.now) c.args.lane.now c.apply.new.self c.in-Ok.patch c.in-Ok.ensures).0
 
 pub returns-in-Err-Refused-clause-refused : goal.returns-in-Err-Refused-clause-refused
 returns-in-Err-Refused-clause-refused g c =
-    refused (apply twenties c.args.edit.now c.args.lane.now) c.args.lane.now c.apply.new.self c.in-Err-Refused.why (rw c.in-Err-Refused.field-0-is at c.in-Err-Refused.ensures)
+    refused (apply numbers c.args.edit.now c.args.lane.now) c.args.lane.now c.apply.new.self c.in-Err-Refused.why (rw c.in-Err-Refused.field-0-is at c.in-Err-Refused.ensures)
 
 pub returns-in-Err-Refused-clause-sound : goal.returns-in-Err-Refused-clause-sound
 returns-in-Err-Refused-clause-sound g c =
-    subst (IsSound twenties) (sym (refused (apply twenties c.args.edit.now c.args.lane.now) c.args.lane.now c.apply.new.self c.in-Err-Refused.why (rw c.in-Err-Refused.field-0-is at c.in-Err-Refused.ensures))) c.requires
+    subst (IsSound numbers) (sym (refused (apply numbers c.args.edit.now c.args.lane.now) c.args.lane.now c.apply.new.self c.in-Err-Refused.why (rw c.in-Err-Refused.field-0-is at c.in-Err-Refused.ensures))) c.requires

@@ -1,6 +1,6 @@
 use Rattle.tl_model.specs.Sound.{IsSound}
-use Rattle.time_list.specs.Twenties.{twenties}
+use Rattle.test_media.specs.Numbers.{numbers}
 use Rattle.time_list.proofs.tests.line.play.Given as goal
 
 abbrev pub invariant-loop-i : goal.invariant-loop-i
-invariant-loop-i g l = IsSound twenties l.lane
+invariant-loop-i g l = IsSound numbers l.lane

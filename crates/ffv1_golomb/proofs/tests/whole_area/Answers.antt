@@ -1,6 +1,0 @@
-use Rattle.std.proofs.Common.{arith}
-use Rattle.ffv1_slice.specs.Room.{room}
-use Rattle.ffv1_golomb.proofs.tests.whole_area.Goals as goal
-
-pub returns : goal.returns
-returns c = c.areas.ensures.within (room 1 c.args.shape.width) (omega arith)

@@ -1,5 +1,0 @@
-use Rattle.ffv1_range.specs.Transition.{IsKept}
-use Rattle.ffv1_range.proofs.tests.written.Given as goal
-
-abbrev pub invariant-loop-i : goal.invariant-loop-i
-invariant-loop-i l = IsKept l.writer.table 128
