@@ -1,6 +1,7 @@
 //! The range coder on worked pieces.
 
-ghost use Rattle.std.specs.Prelude.{◌≡◌, ◌≤◌, [], ◌∷◌, true, false, pos, negsuc};
+ghost use Rattle.std.specs.Prelude.{◌≡◌, ◌≤◌, ℕ, List, [], ◌∷◌, true, false, pos, negsuc};
+ghost use Rattle.ffv1_range.specs.Reading.{opened, after_bit};
 ghost use Rattle.ffv1_range.specs.Symbol.{spelling};
 
 use ffv1_range::{RangeReader, RangeWriter, States, Transition};
@@ -14,15 +15,21 @@ fn reads_two_bits(rt: HostRuntime) -> Result<(), Fail> {
     let mut first = 128;
     let mut second = 128;
     assert!(rt; reader.bit(&mut first));
-    assert_eq!(rt; (reader.at.range, reader.at.low, first), (32_640, 128, 134));
+    assert_eq!(rt; first, 134);
     assert!(rt; !reader.bit(&mut second));
-    assert_eq!(rt;
-        (reader.at.range, reader.at.low, second),
-        (16_320, 128, 122)
-    );
+    assert_eq!(rt; second, 122);
     assert_eq!(rt; reader.taken(), 2);
+    worked_readings();
     Ok(())
 }
+
+// What these two bits leave of the range and of the low number, by the definition.
+fn worked_readings()
+    ensures first { (table : List ℕ) → after_bit (opened table (128 ∷ 0 ∷ [])) 128
+        ≡ record { table = table; range = 32640; low = 128; taken = 2; rest = [] } }
+    ensures second { (table : List ℕ) → after_bit (record { table = table; range = 32640; low = 128; taken = 2; rest = [] }) 128
+        ≡ record { table = table; range = 16320; low = 128; taken = 2; rest = [] } }
+{}
 
 // The lowest bits of a list, each written with a fresh state of its own.
 fn written(
@@ -124,17 +131,6 @@ const MINUS_FIVE: [(usize, bool); 7] = [
 
 const ZERO: [(usize, bool); 1] = [(0, true)];
 
-// A fresh set after these bits, of which no two have one place: 134 follows 128 after a bit 1, and 122 after a bit 0.
-fn moved(spelling: &[(usize, bool)]) -> [u8; 32] {
-    let mut states = [128; 32];
-    for (place, bit) in spelling {
-        if let Some(state) = states.get_mut(*place) {
-            *state = if *bit { 134 } else { 122 };
-        }
-    }
-    states
-}
-
 // These bits, each written with a fresh state.
 fn written_bits(
     alloc: Global,
@@ -157,18 +153,12 @@ fn spells_worked_values(rt: HostRuntime) -> Result<(), Fail> {
         let mut writer = RangeWriter::start(rt.alloc(), &table);
         let mut set = States::fresh();
         writer.symbol(&mut set, value, true)?;
-        assert_eq!(rt; set.states, moved(spelling), "places of {value}");
         let bytes = writer.finish(false)?;
         let spelled = written_bits(rt.alloc(), &table, spelling)?;
         assert_eq!(rt; bytes.as_slice(), spelled.as_slice(), "bits of {value}");
         let mut reader = RangeReader::over(spelled.as_slice(), &table);
         let mut set = States::fresh();
         assert_eq!(rt; reader.symbol(&mut set, true).ok(), Some(value));
-        assert_eq!(rt;
-            set.states,
-            moved(spelling),
-            "places that {value} is read at"
-        );
     }
     Ok(())
 }

@@ -1,5 +1,8 @@
 //! Worked values.
 
+ghost use Rattle.std.specs.Prelude.{◌≡◌, negsuc};
+ghost use Rattle.ffv1_rice.specs.State.{fresh, updated};
+
 use ffv1_rice::{BitReader, BitWriter, RunReader, RunWriter, Step, VlcState, raise};
 use std::process::Abort;
 use std::test::Fail;
@@ -21,16 +24,15 @@ fn values_read(rt: HostRuntime) -> Result<(), Fail> {
     let mut state = VlcState::fresh();
     let mut bits = BitReader::over(&READ[0].0);
     assert_eq!(rt; state.read(&mut bits), Ok(-7));
-    let after = (
-        state.tally.error_sum,
-        state.tally.drift,
-        state.tally.bias,
-        state.tally.count,
-    );
-    assert_eq!(rt; after, (11, -1, -1, 2));
     assert_eq!(rt; bits.taken(), 6);
+    worked_state();
     Ok(())
 }
+
+// A fresh state after the residual -7, by the definition.
+fn worked_state()
+    ensures { updated fresh (negsuc 6) ≡ record { drift = negsuc 0; error_sum = 11; bias = negsuc 0; count = 2 } }
+{}
 
 #[test]
 fn values_written(rt: HostRuntime) -> Result<(), Fail> {
@@ -64,14 +66,28 @@ fn lines_written(rt: HostRuntime) -> Result<(), Fail> {
         &contexts[..300],
         &differences[..300],
     )?;
-    assert_eq!(rt; run.index, 22);
     assert_eq!(rt; bits.finish().as_slice(), [0xFF, 0xFF, 0xFE].as_slice());
     let mut states = [VlcState::fresh()];
     let mut bits = BitWriter::start(rt.alloc());
     let mut run = RunWriter::start();
     run.line(&mut bits, &mut states, &contexts, &differences)?;
-    assert_eq!(rt; run.index, 21);
     assert_eq!(rt; bits.finish().as_slice(), LINE.as_slice());
+    Ok(())
+}
+
+// After a line of 300 samples 0 the next run has 128 samples: 2 of them and a 5 are 0, 7 bits and 00100.
+#[test]
+fn a_run_goes_on(rt: HostRuntime) -> Result<(), Fail> {
+    let mut states = [VlcState::fresh()];
+    let contexts = [0; 300];
+    let mut bits = BitWriter::start(rt.alloc());
+    let mut run = RunWriter::start();
+    run.line(&mut bits, &mut states, &contexts, &[0; 300])?;
+    run.line(&mut bits, &mut states, &contexts[..3], &[0, 0, 5])?;
+    assert_eq!(rt;
+        bits.finish().as_slice(),
+        [0xFF, 0xFF, 0xFE, 0x04, 0x40].as_slice()
+    );
     Ok(())
 }
 
