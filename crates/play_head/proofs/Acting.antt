@@ -191,13 +191,21 @@ module _ {M K F : Type 0} (m : Manner M F) where
   -- a call that was refused
   refused_by : (old new : Scene M K) (what : Act) (why : Full) → new.screen ≡ old.screen → new.out ≡ old.out → Refused m.library old.desk new.desk (need what (state_of m.library new.desk)) why → PlaysActs m old new (what ∷ []) (Err (halt_for why))
   refused_by old new what (full.JournalFull len owing) e f h = record {
-    calls = []; left = what ∷ []; is = refl; spoken = tt; hears = h.0;
+    calls = [];
+    left = what ∷ [];
+    is = refl;
+    spoken = tt;
+    hears = h.0;
     ends = (same_gives old new e f, h.1);
     screen = not_more _ _ (ap (λ (s : SinkSeen). s.faults) e);
     out = not_more _ _ (ap (λ (s : SinkSeen). s.faults) f);
   }
   refused_by old new what full.NoMemory e f h = record {
-    calls = []; left = what ∷ []; is = refl; spoken = tt; hears = h.0;
+    calls = [];
+    left = what ∷ [];
+    is = refl;
+    spoken = tt;
+    hears = h.0;
     ends = inl (some_all old new (calls_output m (m.library old.desk.fixed.library) []) (same_gives old new e f), (same_gives old new e f).0);
     screen = not_more _ _ (ap (λ (s : SinkSeen). s.faults) e);
     out = not_more _ _ (ap (λ (s : SinkSeen). s.faults) f);
@@ -219,19 +227,34 @@ module _ {M K F : Type 0} (m : Manner M F) where
   -- its line was put, and then its rows, or not all of them
   given_by : (old new : Scene M K) (what : Act) (told : Reply F) (r : Result Unit Halt) → IsSaid what → IsAnswer told → HearsAct m.library old.desk new.desk what told → GotAll m.out old.out new.out (line_text (line_of (lib_of old) (frame_of what) 0 told) ∷ []) × (new.out.faults ≡ old.out.faults) → Screens m.screen old.screen new.screen (calls_output m (lib_of old) (one old what told ∷ [])).rows r → PlaysActs m old new (what ∷ []) r
   given_by old new what told (Ok done) said answer h k s = record {
-    calls = one old what told ∷ []; left = []; is = refl; spoken = (record { said = said; told = answer }, tt); hears = h;
+    calls = one old what told ∷ [];
+    left = [];
+    is = refl;
+    spoken = (record { said = said; told = answer }, tt);
+    hears = h;
     ends = (refl, (k.0, s.0));
-    screen = not_more _ _ s.1; out = not_more _ _ k.1;
+    screen = not_more _ _ s.1;
+    out = not_more _ _ k.1;
   }
   given_by old new what told (Err halt.Screen) said answer h k s = record {
-    calls = one old what told ∷ []; left = []; is = refl; spoken = (record { said = said; told = answer }, tt); hears = h;
+    calls = one old what told ∷ [];
+    left = [];
+    is = refl;
+    spoken = (record { said = said; told = answer }, tt);
+    hears = h;
     ends = ((front_all m.out old.out new.out _ k.0, s.0), k.0, s.1);
-    screen = s.2; out = not_more _ _ k.1;
+    screen = s.2;
+    out = not_more _ _ k.1;
   }
   given_by old new what told (Err halt.NoMemory) said answer h k s = record {
-    calls = one old what told ∷ []; left = []; is = refl; spoken = (record { said = said; told = answer }, tt); hears = h;
+    calls = one old what told ∷ [];
+    left = [];
+    is = refl;
+    spoken = (record { said = said; told = answer }, tt);
+    hears = h;
     ends = inl ((front_all m.out old.out new.out _ k.0, s.0), k.0);
-    screen = not_more _ _ s.1; out = not_more _ _ k.1;
+    screen = not_more _ _ s.1;
+    out = not_more _ _ k.1;
   }
   given_by old new what told (Err (halt.Store fault)) said answer h k s = absurd s
   given_by old new what told (Err halt.Out) said answer h k s = absurd s
@@ -247,14 +270,24 @@ module _ {M K F : Type 0} (m : Manner M F) where
   -- its line wasn't put whole
   unsaid_by : (old new : Scene M K) (what : Act) (told : Reply F) (why : Halt) → IsSaid what → IsAnswer told → HearsAct m.library old.desk new.desk what told → new.screen ≡ old.screen → Speaks m.out old.out new.out (line_of (lib_of old) (frame_of what) 0 told) (Err why) → PlaysActs m old new (what ∷ []) (Err why)
   unsaid_by old new what told halt.Out said answer h e k = record {
-    calls = one old what told ∷ []; left = []; is = refl; spoken = (record { said = said; told = answer }, tt); hears = h;
+    calls = one old what told ∷ [];
+    left = [];
+    is = refl;
+    spoken = (record { said = said; told = answer }, tt);
+    hears = h;
     ends = ((k.0, same_front m.screen old.screen new.screen _ e), k.1);
-    screen = not_more _ _ (ap (λ (s : SinkSeen). s.faults) e); out = k.2;
+    screen = not_more _ _ (ap (λ (s : SinkSeen). s.faults) e);
+    out = k.2;
   }
   unsaid_by old new what told halt.OutMemory said answer h e k = record {
-    calls = one old what told ∷ []; left = []; is = refl; spoken = (record { said = said; told = answer }, tt); hears = h;
+    calls = one old what told ∷ [];
+    left = [];
+    is = refl;
+    spoken = (record { said = said; told = answer }, tt);
+    hears = h;
     ends = (k.0, same_front m.screen old.screen new.screen _ e);
-    screen = not_more _ _ (ap (λ (s : SinkSeen). s.faults) e); out = not_more _ _ k.1;
+    screen = not_more _ _ (ap (λ (s : SinkSeen). s.faults) e);
+    out = not_more _ _ k.1;
   }
   unsaid_by old new what told (halt.Store fault) said answer h e k = absurd k
   unsaid_by old new what told halt.Screen said answer h e k = absurd k
@@ -285,7 +318,10 @@ module _ {M K F : Type 0} (m : Manner M F) where
   unshown old new n full.NoMemory s is e f (inl h) =
       refused_act old new (act.Show n) full.NoMemory s is e f (hears_learns m.library old.desk new.desk h.0, h.1)
   unshown old new n full.NoMemory s is e f (inr h) = subst (λ (x : Halt). PlaysActs m old new (act.Show n ∷ []) (Err x)) (sym is) (record {
-    calls = one old (act.Show n) (Render h.0) ∷ []; left = []; is = refl; spoken = (record { said = tt; told = tt }, tt);
+    calls = one old (act.Show n) (Render h.0) ∷ [];
+    left = [];
+    is = refl;
+    spoken = (record { said = tt; told = tt }, tt);
     hears = hears_enters m.library old.desk new.desk (act.Show n) (Render h.0) h.1;
     ends = inr ((old.desk.fixed.number, n, h.0, refl), same_gives old new e f);
     screen = not_more _ _ (ap (λ (s : SinkSeen). s.faults) e);
@@ -308,9 +344,14 @@ module _ {M K F : Type 0} (m : Manner M F) where
 
   pub no_acts : (s : Scene M K) → Hears m.library s.desk s.desk [] → PlaysActs m s s [] (Ok tt)
   no_acts s h = record {
-    calls = []; left = []; is = refl; spoken = tt; hears = h;
+    calls = [];
+    left = [];
+    is = refl;
+    spoken = tt;
+    hears = h;
     ends = (refl, same_gives s s refl refl);
-    screen = omega arith; out = omega arith;
+    screen = omega arith;
+    out = omega arith;
   }
 
   pub acts_on : (old mid new : Scene M K) (xs ys : List Act) → PlaysActs m old mid xs (Ok tt) → PlaysActs m mid new ys (Ok tt) → PlaysActs m old new (xs ++ ys) (Ok tt)
