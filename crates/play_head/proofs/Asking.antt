@@ -19,7 +19,7 @@ use Rattle.play_head.specs.Saying.{SaysCall, place}
 use Rattle.play_head.proofs.Acting.{says_acts}
 use Rattle.play_head.proofs.Lining.{IsNoWork, manner_of, scene_of, acts_line}
 
-the_edit : Edit → Option Edit → Edit
+abbrev the_edit : Edit → Option Edit → Edit
 the_edit e None = e
 the_edit e (Some other) = other
 
@@ -30,6 +30,7 @@ module _ {M K F : Type 0} (s : Setting M F) where
       acts_line s (player desk store screen before) (player now store screen after) line is (Err faults.NoMemory) (what ∷ []) r e u reads same refl
       (says_acts (manner_of s) (scene_of s (player desk store screen before)) (scene_of s (player now store screen after)) what r said refl h)
 
+module _ {M F : Type 0} (s : Setting M F) where
   pub record IsEditLine (c : Call) (e : Edit) : Type 0 where
     pub no_work : IsNoWork c
     pub reads : ReadsList s c (Err faults.NoMemory)
@@ -38,7 +39,7 @@ module _ {M K F : Type 0} (s : Setting M F) where
   is_edit : (c : Call) (e other : Edit) → IsNoWork c → ReadsList s c (Err faults.NoMemory) → (act.Edit other ∷ []) ≡ line_acts s.clips c (Err faults.NoMemory) → Some other ≡ Some e → IsEditLine c e
   is_edit c e other u reads same h = record { no_work = u; reads = reads; acts = ap (λ (x : Edit). act.Edit x ∷ []) (sym (ap (the_edit e) h)) ∙ same }
 
-  pub edit_line : (c : Call) (e : Edit) → edit_for s.clips c ≡ Some e → IsEditLine c e
+  edit_line : (c : Call) (e : Edit) → edit_for s.clips c ≡ Some e → IsEditLine c e
   edit_line (call.Insert at name first len) e h = is_edit _ e _ tt tt refl h
   edit_line (call.Overwrite at name first len) e h = is_edit _ e _ tt tt refl h
   edit_line (call.Extract at len) e h = is_edit (call.Extract at len) e (edit.Extract at len) tt tt refl h
@@ -59,3 +60,7 @@ module _ {M K F : Type 0} (s : Setting M F) where
   edit_line (call.Roll first len) e h = absurd (cc)
   edit_line (call.Work turns) e h = absurd (cc)
   edit_line (call.Export file) e h = absurd (cc)
+
+  -- of a line whose edit was found
+  pub edit_found : (c : Call) (e : Edit) (r : Option Edit) → r ≡ edit_for s.clips c → r ≡ Some e → IsEditLine c e
+  edit_found c e r is some = edit_line c e (sym is ∙ some)

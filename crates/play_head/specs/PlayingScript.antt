@@ -71,7 +71,8 @@ StopsBy tells old new at (Ok done, silenced) = ⊥
 StopsBy tells old new at (Err what, silenced) = SaysStop tells old new at (what, silenced)
 
 -- With clips and a rate, as pictures go to the screen.
-abbrev pub setting_of : {M : Type 0} → (M → Library Image) → (clips : List (List ℕ × ℕ)) → (rate : ℕ) → (List ℕ → Option (List ℕ)) → Tells → Setting M Image
+abbrev pub setting_of : {M : Type 0} → (M → Library Image) → (clips : List (List ℕ × ℕ)) → (rate : ℕ)
+    → (List ℕ → Option (List ℕ)) → Tells → Setting M Image
 setting_of library clips rate files tells =
     record { library = library; rows = image_rows; clips = clips; rate = rate; files = files; tells = tells }
 

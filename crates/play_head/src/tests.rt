@@ -50,13 +50,7 @@ fn a_roll_wants_eight_frames_ahead(rt: HostRuntime) {
 }
 
 /// Plays a script over the library of black pictures, to a screen whose first put fails.
-fn expect_played(
-    rt: &impl Abort,
-    alloc: Global,
-    text: &str,
-    lines: &str,
-    result: Result<(), Stop>,
-) {
+fn expect_played(rt: &impl Abort, alloc: Global, text: &str, lines: &str, end: Result<(), Stop>) {
     let script = read_script(alloc, text.as_bytes()).expect(rt, "a script");
     let clips = Clips::from_vec(Vec::new(alloc));
     let mut store = MemStore::start(alloc, Vec::new(alloc));
@@ -77,7 +71,7 @@ fn expect_played(
         &mut out,
         &OpenGate,
     );
-    assert_eq!(rt; played.result, result);
+    assert_eq!(rt; played.result, end);
     assert!(rt; !played.is_silenced);
     assert!(rt; out.bytes() == lines.as_bytes());
     assert!(rt; !desk.is_stopped());

@@ -12,9 +12,9 @@ loop-line-init g c =
     lines_none (setting_of g.D.Lib.Media.library c.args.clips.now c.args.script.now.rate (g.T.Store.seen c.args.store.now).file (record { store = g.T.Store.tells; screen = g.S.Sink.tells; out = g.O.Sink.tells }))
     (player (g.D.Desk.desk c.args.desk.now) (g.T.Store.seen c.args.store.now) (g.S.Sink.seen c.args.screen.now) (g.O.Sink.seen c.args.out.now))
 
-pub play_line-requires-call : goal.play_line-requires-call
-play_line-requires-call g c =
-    call_here c.as_slice-line-items.result.now c.loop-line.line-index c.loop-line-item.result (omega arith) c.loop-line-item.is
+pub play_line-requires-clause-call : goal.play_line-requires-clause-call
+play_line-requires-clause-call g c =
+    call_here c.as_slice-line-items.result.now c.loop-line.line-index c.line-item.result (omega arith) c.line-item.is
     (subst AreCalls (sym c.as_slice-line-items.ensures) c.requires.script.said.calls)
 
 pub loop-line-preserved : goal.loop-line-preserved
@@ -23,7 +23,7 @@ loop-line-preserved g c =
     (player (g.D.Desk.desk c.args.desk.now) (g.T.Store.seen c.args.store.now) (g.S.Sink.seen c.args.screen.now) (g.O.Sink.seen c.args.out.now))
     (player (g.D.Desk.desk c.loop-line.desk) (g.T.Store.seen c.loop-line.store) (g.S.Sink.seen c.loop-line.screen) (g.O.Sink.seen c.loop-line.out))
     (player (g.D.Desk.desk c.play_line.new.desk) (g.T.Store.seen c.play_line.new.store) (g.S.Sink.seen c.play_line.new.screen) (g.O.Sink.seen c.play_line.new.out))
-    c.as_slice-line-items.result.now c.loop-line.line-index c.loop-line-item.result (omega arith) c.loop-line-item.is c.loop-line.invariant c.in-Ok.ensures
+    c.as_slice-line-items.result.now c.loop-line.line-index c.line-item.result (omega arith) c.line-item.is c.loop-line.invariant c.in-Ok.ensures
 
 pub stop_script-requires : goal.stop_script-requires
 stop_script-requires g c =
@@ -31,7 +31,7 @@ stop_script-requires g c =
     (g.T.Store.seen c.loop-line.store).file
     (player (g.D.Desk.desk c.loop-line.desk) (g.T.Store.seen c.loop-line.store) (g.S.Sink.seen c.loop-line.screen) (g.O.Sink.seen c.loop-line.out))
     (player (g.D.Desk.desk c.play_line.new.desk) (g.T.Store.seen c.play_line.new.store) (g.S.Sink.seen c.play_line.new.screen) (g.O.Sink.seen c.play_line.new.out))
-    c.loop-line-item.result c.in-Err.why c.in-Err.ensures
+    c.line-item.result c.in-Err.why c.in-Err.ensures
 
 pub returns-in-Err : goal.returns-in-Err
 returns-in-Err g c =
@@ -43,8 +43,8 @@ returns-in-Err g c =
     (player (g.D.Desk.desk c.args.desk.now) (g.T.Store.seen c.args.store.now) (g.S.Sink.seen c.args.screen.now) (g.O.Sink.seen c.args.out.now))
     (player (g.D.Desk.desk c.loop-line.desk) (g.T.Store.seen c.loop-line.store) (g.S.Sink.seen c.loop-line.screen) (g.O.Sink.seen c.loop-line.out))
     (g.D.Desk.desk c.play_line.new.desk) (g.T.Store.seen c.play_line.new.store) (g.S.Sink.seen c.play_line.new.screen) (g.O.Sink.seen c.play_line.new.out) (g.O.Sink.seen c.stop_script.new.out)
-    c.as_slice-line-items.result.now c.loop-line.line-index c.loop-line-item.result c.in-Err.why c.stop_script.result.result c.stop_script.result.is_silenced
-    (omega arith) c.loop-line-item.is c.loop-line.invariant c.in-Err.ensures c.stop_script.ensures)
+    c.as_slice-line-items.result.now c.loop-line.line-index c.line-item.result c.in-Err.why c.stop_script.result.result c.stop_script.result.is_silenced
+    (omega arith) c.line-item.is c.loop-line.invariant c.in-Err.ensures c.stop_script.ensures)
 
 pub returns : goal.returns
 returns g c =
