@@ -6,6 +6,7 @@ import shlex
 import shutil
 import sys
 from pathlib import Path
+from typing import List
 
 from bad import check_bad_input
 from demo import check_demo
@@ -16,12 +17,13 @@ from ids import check_ids
 from kept import check_kept
 from real import check_real
 from report import Report
+from script_texts import check_scripts
 from segments import check_segments
 from texts import check_lists
 from tools import HERE
 
-# A program that reads edit lists as `texts` says, where there is one.
-LIST_READER = shlex.split(os.environ.get("TIMELINE_EDL", ""))
+# A program that reads edit lists and scripts as `texts` and `script_texts` say, where there is one.
+TEXT_READER = shlex.split(os.environ.get("TIMELINE_TEXTS", ""))
 
 PARTS = {
     "ids": lambda report, work: check_ids(report),
@@ -34,11 +36,16 @@ PARTS = {
     "ffv1": check_reader,
     "frames": check_frames,
     "lists": lambda report, work: check_edit_lists(report),
+    "scripts": lambda report, work: check_scripts(report, reader_of("script")),
 }
 
 
+def reader_of(kind: str) -> List[str]:
+    return [*TEXT_READER, kind] if TEXT_READER else []
+
+
 def check_edit_lists(report: Report):
-    check_lists(report, LIST_READER)
+    check_lists(report, reader_of("edl"))
     check_segments(report)
 
 

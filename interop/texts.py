@@ -236,10 +236,15 @@ def changed_lists(count: int) -> Iterator[Changed]:
 # Checks
 
 
-def said(command: Sequence[str], content: bytes, rate: int) -> str:
-    """What a program prints of a list; its status isn't looked at."""
-    ran = subprocess.run([*command, str(rate)], input=content, stdout=subprocess.PIPE, timeout=60)
+def answer_of(command: Sequence[str], content: bytes) -> str:
+    """What a program prints of a text; its status isn't looked at."""
+    ran = subprocess.run(command, input=content, stdout=subprocess.PIPE, timeout=60)
     return ran.stdout.decode(errors="replace")
+
+
+def said(command: Sequence[str], content: bytes, rate: int) -> str:
+    """What a program prints of a list at a rate."""
+    return answer_of([*command, str(rate)], content)
 
 
 def check_lists(report: Report, command: Sequence[str] = (), count: int = CHANGED_LISTS):

@@ -49,7 +49,7 @@ events_timed names n (Other number ∷ rows) s = events_timed names (n + 1) rows
 
 said_timed : (said : Result (List Said) EdlFault) → IfOk said (All IsTimedRow)
     → IfOk {T = Edl} (said >>= λ rows. Ok (record { title = title_of rows; events = events_from (names_of rows) 1 rows }))
-        (λ list. All IsTimed list.events)
+    (λ list. All IsTimed list.events)
 said_timed (Err e) s = tt
 said_timed (Ok rows) s = events_timed (names_of rows) 1 rows s
 

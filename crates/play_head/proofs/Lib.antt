@@ -4,6 +4,9 @@ pub mod Turning
 pub mod Pieces
 pub mod Rows
 pub mod Speaking
+pub mod Filled
+pub mod Carried
+pub mod Finishing
 pub mod Acting
 pub mod Lining
 pub mod Giving

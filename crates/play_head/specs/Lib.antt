@@ -17,3 +17,4 @@ pub mod PlayingActs
 pub mod Giving
 pub mod Listing
 pub mod Carrying
+pub mod Blanks

@@ -1,14 +1,15 @@
 //! Playing a script as one caller of an editing core, over any desk.
 //!
 //! `roll` has the calls that play a range of frames, `work` the turns of work that a caller does itself, `calls` the calls that
-//! ask the desk one thing, each with its line, `told` the line of each reply, `say` the putting of lines and pictures, and
-//! `stop` what stops a script before its end.
+//! ask the desk one thing, each with its line, `told` the line of each reply, `say` the putting of lines and pictures,
+//! `stop` what stops a script before its end, and `exports` the exports that are left.
 #![tactic(auto)]
 
 mod body;
 mod calls;
 mod edits;
 mod ending;
+mod exports;
 mod halt;
 mod lines;
 mod lists;
@@ -23,6 +24,7 @@ mod working;
 
 pub use body::{play_body, play_script};
 pub use ending::Playback;
+pub use exports::{carry, finish_exports};
 pub use roll::Roll;
 pub use stop::Stop;
 

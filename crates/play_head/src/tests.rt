@@ -1,6 +1,8 @@
 //! The calls of a roll, in order, and scripts that are played over a desk alone.
 
 mod blacks;
+mod blanks;
+mod carrying;
 
 use super::*;
 use blacks::Blacks;
