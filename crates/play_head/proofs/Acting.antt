@@ -308,6 +308,9 @@ module _ {M K F : Type 0} (m : Manner M F) where
   says_acts old new what (Err (halt.Store fault)) said e h = absurd h
   says_acts old new what (Err halt.Screen) said e h = absurd h
 
+  pub says_is : (old new : Scene M K) (a what : Act) (r : Result Unit Halt) → a ≡ what → IsSaid what → new.screen ≡ old.screen → SaysCall m.library m.out (place old.desk old.out) (place new.desk new.out) (what, r) → PlaysActs m old new (a ∷ []) r
+  says_is old new a what r e said s h = subst (λ (x : Act). PlaysActs m old new (x ∷ []) r) (sym e) (says_acts old new what r said s h)
+
   -- a show that was refused, or whose picture found no memory
   pub unshown : (old new : Scene M K) (n : ℕ) (why : Full) (s : Halt) → s ≡ halt_for why → new.screen ≡ old.screen → new.out ≡ old.out → Shows m.library old.desk new.desk n (Err why) → PlaysActs m old new (act.Show n ∷ []) (Err s)
   unshown old new n (full.JournalFull len owing) s is e f h =
