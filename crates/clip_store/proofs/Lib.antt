@@ -1,1 +1,4 @@
 pub mod Gaining
+pub mod DefaultBytes
+pub mod Blending
+pub mod PictureTests

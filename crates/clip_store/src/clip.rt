@@ -1,8 +1,10 @@
 //! A clip that was loaded.
-ghost use Rattle.std.specs.Prelude.{◌≡◌, ◌+◌, ◌≤◌, Ok, length, string_bytes};
+ghost use Rattle.std.specs.Prelude.{◌≡◌, ◌+◌, ◌<◌, ◌≤◌, Ok, length, string_bytes};
+ghost use Rattle.tl_limits.specs.Limits.{IsRecordLength};
 ghost use Rattle.mkv_read.specs.Plain.{LiesBefore};
 ghost use Rattle.mkv_read.specs.Clip.{clip_of};
-ghost use Rattle.clip_store.specs.Clip.{piece, record_in, ReadsIndex, ReadsRecord, Reads, file_of};
+ghost use Rattle.clip_store.specs.Clip.{piece, record_in, ReadsIndex, ReadsRecord, Reads, file_of, IsClip};
+ghost use Rattle.clip_store.specs.Library.{record_bytes_of, packet_of};
 
 use crate::fault::LoadFault;
 use ffv1_record::{Record, RecordFault};
@@ -88,5 +90,33 @@ impl Clip {
             record,
             shape,
         })
+    }
+
+    /// The bytes of the record.
+    pub(crate) fn private(&self) -> &[u8]
+        requires { IsClip self.now }
+        ensures bytes { result.now ≡ record_bytes_of self.now }
+        ensures few { IsRecordLength (length result.now) }
+    {
+        piece(self.bytes.as_slice(), self.index.private)
+    }
+
+    /// How many frames the clip has.
+    pub(crate) fn frames(&self) -> u32
+        requires { IsClip self.now }
+        ensures { result ≡ length self.now.index.packets }
+    {
+        self.index.packets.as_slice().len() as u32
+    }
+
+    /// The coded bytes of a frame, from 0.
+    pub(crate) fn packet(&self, frame: u32) -> &[u8]
+        requires sound { IsClip self.now }
+        requires frame { frame < length self.now.index.packets }
+        ensures bytes { result.now ≡ packet_of self.now frame }
+        ensures within { length result.now ≤ length self.now.bytes }
+    {
+        let place = self.index.packets.as_slice()[frame as usize];
+        piece(self.bytes.as_slice(), place)
     }
 }
