@@ -1,5 +1,5 @@
 -- One more clip behind those of a shelf.
-use Rattle.std.proofs.Common.{◌≡◌, ℕ, ◌+◌, ◌≤◌, List, [], ◌∷◌, ◌++◌, length, Result, Ok, Err, drop, length-drop, ap, sym, subst, arith, inl, inr}
+use Rattle.std.proofs.Common.{◌≡◌, ℕ, get_or, ◌<◌, suc, zero, ◌+◌, ◌≤◌, List, [], ◌∷◌, ◌++◌, length, Result, Ok, Err, drop, length-drop, ap, sym, subst, arith, inl, inr}
 use Rattle.std.proofs.lemmas.Bool.{cases_lt, lt-ltb}
 use Rattle.std.proofs.lemmas.List.{length-append, length-take-le}
 use Rattle.std.proofs.lemmas.List.Elements.{All-push}
@@ -15,6 +15,12 @@ use Rattle.clip_store.specs.Loading.{total, HasRoom, Puts, Loads, AreClips}
 pub total_put : (clips : List ClipOf) (clip : ClipOf) → total (clips ++ clip ∷ []) ≡ total clips + length clip.bytes
 total_put [] clip = omega arith
 total_put (first ∷ clips) clip = omega (arith, total_put clips clip)
+
+-- a clip's file by itself
+pub file_within : (clips : List ClipOf) (n : ℕ) (other : ClipOf) → n < length clips → length (get_or clips n other).bytes ≤ total clips
+file_within [] n other lt = absurd (omega arith)
+file_within (clip ∷ clips) zero other lt = omega arith
+file_within (clip ∷ clips) (suc n) other lt = omega (arith, file_within clips n other (omega arith))
 
 -- A record has at least 6 bytes, and so has the file that it lies in.
 record_long : (bytes : List ℕ) (p : Parameters) → parameters bytes ≡ Ok p → 6 ≤ length bytes

@@ -4,3 +4,4 @@ pub mod Library
 pub mod Readying
 pub mod Blend
 pub mod Pictures
+pub mod Render

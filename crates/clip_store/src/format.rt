@@ -5,13 +5,17 @@ ghost use Rattle.ffv1_record.specs.Default.{default_parameters};
 ghost use Rattle.ffv1_record.specs.Spelling.{record_bytes};
 ghost use Rattle.clip_store.specs.Clip.{IsClip};
 ghost use Rattle.clip_store.specs.Library.{IsOutput, record_bytes_of};
+ghost use Rattle.tl_model.specs.Media.{Encodes};
+ghost use Rattle.clip_store.specs.Render.{coded};
 ghost use Rattle.clip_store.specs.Readying.{IsGridFor, IsFormat, IsOutputOf};
 
 use crate::clip::Clip;
+use ffv1_frame::encode_frame;
 use ffv1_record::{Coder, Record, default_record};
-use pic_planes::Shape;
+use pic_planes::{Picture, Shape};
 use std::alloc::{AllocError, Global};
 use std::marker::Model;
+use tl_model::EncodeFault;
 
 /// The shape and the record of the output.
 #[derive(Clone, Copy, Debug, PartialEq, Eq)]
@@ -104,5 +108,15 @@ impl Output {
             bytes,
             record,
         })
+    }
+
+    /// The packet of a picture of the output's shape.
+    pub(crate) fn encode(&self, alloc: Global, picture: &Picture) -> Result<Vec<u8>, EncodeFault>
+        requires sound { IsOutput self.now }
+        requires shape { picture.now.shape ≡ self.now.shape }
+        ensures { Encodes (coded self.now picture.now) result }
+    {
+        let _shape = picture.shape();
+        encode_frame(alloc, &self.record, picture)
     }
 }

@@ -9,6 +9,7 @@ mod dissolve;
 mod fault;
 mod format;
 mod library;
+mod shapes;
 mod shelf;
 
 pub use fault::LoadFault;
