@@ -23,7 +23,8 @@ IsFormat clips (format.Own shape coder h v) = IsGridFor shape h v
 
 -- The output has a clip's shape and record bytes, or a shape of its own and the bytes of its default record.
 abbrev pub HasFormat : List ClipOf → Format → OutputOf → Type 0
-HasFormat clips (format.As clip) output = (output.shape ≡ (clip_at clips clip).shape) × (output.bytes ≡ record_bytes_of (clip_at clips clip))
+HasFormat clips (format.As clip) output =
+    (output.shape ≡ (clip_at clips clip).shape) × (output.bytes ≡ record_bytes_of (clip_at clips clip))
 HasFormat clips (format.Own shape coder h v) output =
     (output.shape ≡ shape) × (output.bytes ≡ record_bytes (default_parameters coder shape.chroma h v))
 

@@ -32,7 +32,14 @@ impl Model for Clip {
 
     ghost Value = { ClipOf };
 
-    ghost view = { λ c. record { name = c.name; start = c.start; bytes = c.bytes.items; index = c.index; parameters = c.record; shape = c.shape } };
+    ghost view = { λ c. record {
+      name = c.name;
+      start = c.start;
+      bytes = c.bytes.items;
+      index = c.index;
+      parameters = c.record;
+      shape = c.shape;
+    } };
 }
 
 /// The bytes of a place.
