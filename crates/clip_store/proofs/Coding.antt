@@ -1,6 +1,6 @@
 -- What is decoded and coded is what the definitions name.
-use Rattle.std.proofs.Common.{◌≡◌, ◌≤◌, List, ℕ, length, Option, Some, None, Result, Ok, Err, refl, sym, ◌∙◌, ap, subst, arith}
-use Rattle.std.specs.Prelude.{IsTrue, IfOk, vec_len}
+use Rattle.std.proofs.Common.{◌≡◌, ◌≤◌, List, ℕ, Option, Some, None, Result, Ok, Err, refl, sym, ◌∙◌, ap, subst, arith}
+use Rattle.std.specs.Prelude.{IfOk, vec_len}
 use Rattle.std.specs.Global.{Vec}
 use Rattle.tl_limits.specs.Limits.{max_packet_bytes}
 use Rattle.pic_planes.specs.Shape.{Layout}
@@ -18,7 +18,6 @@ use Rattle.tl_model.specs.declared.media.EncodeFault.TheVariants.{SliceTooLong, 
 use Rattle.tl_model.specs.Media as media
 use Rattle.clip_store.specs.Clip.{ClipOf}
 use Rattle.clip_store.specs.Library.{OutputOf, packet_of}
-use Rattle.clip_store.specs.Pictures.{is_picture}
 use Rattle.clip_store.specs.Render.{decoded, written, coded, frame_of}
 use Rattle.clip_store.proofs.PictureTests.{is_picture_from}
 

@@ -1,20 +1,18 @@
 -- A packet decodes to a picture of the shape that was asked for.
-use Rattle.std.proofs.Common.{◌≡◌, ℕ, zero, suc, List, [], ◌∷◌, length, refl, sym, ◌∙◌, ap, Result, Ok}
-use Rattle.std.specs.Prelude.{ℤ, slice_index_or}
+use Rattle.std.proofs.Common.{◌≡◌, ℕ, zero, suc, List, [], ◌∷◌, length, refl, sym, ◌∙◌, ap, Ok}
+use Rattle.std.specs.Prelude.{ℤ}
 use Rattle.pic_planes.specs.Shape.{Layout}
-use Rattle.pic_planes.specs.Picture.{Image, filled}
-use Rattle.ffv1_range.specs.Reading.{Reading}
+use Rattle.pic_planes.specs.Picture.{Image}
 use Rattle.ffv1_rice.specs.Bits.{opened}
 use Rattle.ffv1_record.specs.Parameters.{Parameters}
 use Rattle.ffv1_slice.specs.declared.area.Area.{Area}
-use Rattle.ffv1_slice.specs.declared.fault.SliceFault.{SliceFault}
 use Rattle.ffv1_slice.specs.Area.{below, with_first, with_rows}
 use Rattle.ffv1_slice.specs.Reading.{coding}
 use Rattle.ffv1_slice.specs.Slice as slices
 use Rattle.ffv1_golomb.specs.Turn.{InTurn}
 use Rattle.ffv1_golomb.specs.Slice as rice
-use Rattle.ffv1_frame.specs.Packet.{Slice, no_slice}
-use Rattle.ffv1_frame.specs.Frame.{Gives, SamplesGive, SliceGives, DecodesTo}
+use Rattle.ffv1_frame.specs.Packet.{Slice}
+use Rattle.ffv1_frame.specs.Frame.{Gives, SamplesGive, DecodesTo}
 use Rattle.ffv1_frame.proofs.SliceSteps.{filled-shape}
 
 rows-shape : (image : Image) (area : Area) (rows : List (List ℕ)) → (with_rows image area rows).shape ≡ image.shape

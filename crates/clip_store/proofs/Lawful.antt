@@ -1,11 +1,11 @@
 -- The library is one: what holds of every library holds of it.
-use Rattle.std.proofs.Common.{◌≡◌, ℕ, ◌<◌, Bool, true, false, cond, List, length, Option, Some, None, Result, Ok, Err, refl, sym, ◌∙◌, ap, subst, arith, inl, inr}
-use Rattle.std.specs.Prelude.{IsTrue, IsOk, bytes_eq}
+use Rattle.std.proofs.Common.{◌≡◌, ℕ, List, Option, Some, None, Result, Ok, Err, refl, sym, ◌∙◌, ap, subst, inl, inr}
+use Rattle.std.specs.Prelude.{IsTrue, bytes_eq}
 use Rattle.std.proofs.lemmas.Bool.{cases_Bool}
 use Rattle.std.proofs.lemmas.Slice.Eq.{bytes_eq-Decides}
 use Rattle.std.proofs.lemmas.List.Elements.{All-get_or}
 use Rattle.pic_planes.specs.Shape.{Layout, IsShape}
-use Rattle.pic_planes.specs.Picture.{Image, IsPicture, filled, black}
+use Rattle.pic_planes.specs.Picture.{Image, filled, black}
 use Rattle.ffv1_record.specs.Parameters.{Parameters}
 use Rattle.ffv1_record.specs.Reading.{parameters}
 use Rattle.ffv1_record.specs.Suits.{Suits}

@@ -1,5 +1,5 @@
 -- The library as the editor's core knows it: what a recipe renders to, and what a picture is coded as.
-use Rattle.std.specs.Prelude.{ℕ, if◌then◌else◌, List, length, bytes_eq, Option, Some, None, Result, Ok, Err}
+use Rattle.std.specs.Prelude.{ℕ, if◌then◌else◌, List, length, bytes_eq, Option, None, Result, Ok, Err}
 use Rattle.pic_planes.specs.Shape.{Layout}
 use Rattle.pic_planes.specs.Picture.{Image, black}
 use Rattle.ffv1_record.specs.Parameters.{Parameters}
