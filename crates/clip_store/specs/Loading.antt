@@ -1,5 +1,5 @@
 -- What a load does to the clips of a shelf.
-use Rattle.std.specs.Prelude.{◌≡◌, ℕ, ◌+◌, ◌≤◌, ◌<◌, Bool, IsTrue, List, [], ◌∷◌, ◌++◌, length, All, bytes_eq, Result, Ok, Err}
+use Rattle.std.specs.Prelude.{◌≡◌, ℕ, ◌+◌, ◌*◌, ◌≤◌, ◌<◌, Bool, IsTrue, List, [], ◌∷◌, ◌++◌, length, All, bytes_eq, Result, Ok, Err}
 use Rattle.std.specs.List.{list_any}
 use Rattle.tl_limits.specs.Limits.{max_total_bytes}
 use Rattle.clip_store.specs.declared.fault.LoadFault.{LoadFault}
@@ -56,4 +56,4 @@ Puts clips clip (Err faults.Slices) after = ⊥
 pub record AreClips (clips : List ClipOf) : Type 0 where
   pub each : All IsClip clips
   pub bytes : total clips ≤ max_total_bytes
-  pub few : length clips ≤ total clips
+  pub few : 2 * length clips ≤ total clips

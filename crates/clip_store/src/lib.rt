@@ -5,10 +5,16 @@
 #![tactic(auto)]
 
 mod clip;
+mod dissolve;
 mod fault;
+mod format;
+mod library;
+mod shapes;
 mod shelf;
 
 pub use fault::LoadFault;
+pub use format::Format;
+pub use library::Library;
 pub use shelf::Shelf;
 
 #[cfg(test)]

@@ -3,10 +3,13 @@ ghost use Rattle.std.specs.Prelude.{◌≡◌, ◌+◌, ◌≤◌, [], length};
 ghost use Rattle.tl_limits.specs.Limits.{max_total_bytes};
 ghost use Rattle.clip_store.specs.Clip.{file_of, IsClip};
 ghost use Rattle.clip_store.specs.Loading.{has_name, total, Puts, Loads, AreClips};
+ghost use Rattle.clip_store.specs.Readying.{IsFormat, Readies};
 
 use crate::clip::Clip;
 use crate::fault::LoadFault;
-use std::alloc::Global;
+use crate::format::{Format, Output};
+use crate::library::Library;
+use std::alloc::{AllocError, Global};
 use std::marker::Model;
 use tl_limits::MAX_TOTAL_BYTES;
 
@@ -65,6 +68,22 @@ impl Shelf {
         }
         let clip = Clip::of_file(alloc, name, start, bytes)?;
         self.put(clip)
+    }
+
+    /// The library of the clips in their order, with the output of a format: `As` asks for the number of a loaded clip, and `Own` for a
+    /// grid of at most 1,024 slices that isn't larger than the shape, and whose slices reach the ends of the planes. Where memory is
+    /// wanting the shelf comes back.
+    pub fn ready(self, alloc: Global, format: Format) -> Result<Library, (Shelf, AllocError)>
+        requires { IsFormat self format }
+        ensures { Readies self format result }
+    {
+        match Output::of_format(alloc, self.clips.as_slice(), format) {
+            Ok(output) => {
+                let Shelf { clips, total: _ } = self;
+                Ok(Library { clips, output })
+            }
+            Err(error) => Err((self, error)),
+        }
     }
 
     // Puts a clip behind the others: its number.
