@@ -1,6 +1,5 @@
 //! Sessions over a library whose pictures are numbers, as tables of calls and what each is told.
 
-mod numbers;
 mod session;
 
 use crate::export::Exports;
@@ -8,8 +7,8 @@ use crate::jobs::Jobs;
 use crate::reply::{AskReply, CancelReply, FileReply, Full, ReleaseReply, WantReply};
 use crate::results::Results;
 use edit_undo::Editor;
-use numbers::Numbers;
 use session::{Call, Late, Row, Told, play_late, play_rows};
+use test_media::Numbers;
 use time_list::ListLane;
 use tl_model::{
     Edit, EditRefusal, EditReply, Ending, FrameFault, Journal, Recipe, RenderFault, Side,
@@ -76,11 +75,11 @@ const EACH_REPLY: [Row; 47] = [
     Row { pass: 0, call: Call::Cancel { first: 0, len: 1 }, told: Told::Cancelled(CancelReply::PastEnd { len: 0 }) },
     Row { pass: 0, call: Call::Edit(Edit::Insert { at: 1, take: Side::Black, len: 1 }),
         told: Told::Edited(EditReply::Refused(EditRefusal::PastEnd)) },
-    Row { pass: 0, call: Call::Edit(Edit::Insert { at: 0, take: Side::Clip { clip: 2, frame: 0 }, len: 1 }),
+    Row { pass: 0, call: Call::Edit(Edit::Insert { at: 0, take: Side::Clip { clip: 4, frame: 0 }, len: 1 }),
         told: Told::Edited(EditReply::Refused(EditRefusal::NoClip)) },
-    Row { pass: 0, call: Call::Edit(Edit::Insert { at: 0, take: Side::Clip { clip: 1, frame: 0 }, len: 1 }),
+    Row { pass: 0, call: Call::Edit(Edit::Insert { at: 0, take: Side::Clip { clip: 2, frame: 0 }, len: 1 }),
         told: Told::Edited(EditReply::Refused(EditRefusal::ShapeDiffers)) },
-    Row { pass: 0, call: Call::Edit(Edit::Insert { at: 0, take: Side::Clip { clip: 0, frame: 5 }, len: 6 }),
+    Row { pass: 0, call: Call::Edit(Edit::Insert { at: 0, take: Side::Clip { clip: 0, frame: 15 }, len: 6 }),
         told: Told::Edited(EditReply::Refused(EditRefusal::OutsideClip)) },
     Row { pass: 0, call: Call::Edit(Edit::Insert { at: 0, take: Side::Black, len: 1000000 }),
         told: Told::Edited(EditReply::Ok { len: 1000000 }) },
