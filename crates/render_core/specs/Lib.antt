@@ -6,5 +6,4 @@ pub mod Calls
 pub mod Runs
 pub mod Board
 pub mod Parts
-pub mod Numbers
 pub mod Waiting

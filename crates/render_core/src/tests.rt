@@ -1,6 +1,5 @@
 //! Sessions over a library whose pictures are numbers, as tables of calls and what each is told.
 
-mod numbers;
 mod session;
 
 use crate::export::Exports;
@@ -8,8 +7,8 @@ use crate::jobs::Jobs;
 use crate::reply::{AskReply, CancelReply, FileReply, Full, ReleaseReply, WantReply};
 use crate::results::Results;
 use edit_undo::Editor;
-use numbers::Numbers;
 use session::{Call, Late, Row, Told, play_late, play_rows};
+use test_media::Numbers;
 use time_list::ListLane;
 use tl_model::{
     Edit, EditRefusal, EditReply, Ending, FrameFault, Journal, Recipe, RenderFault, Side,
@@ -18,7 +17,8 @@ use tl_model::{
 /// A wanted frame is cancelled while its job is held, and wanted again.
 #[rattlefmt::skip]
 const CANCELLED: [Row; 10] = [
-    Row { pass: 1, call: Call::Edit(Edit::Insert { at: 0, take: Side::Clip { clip: 0, frame: 0 }, len: 10 }), told: Told::Edited(EditReply::Ok { len: 10 }) },
+    Row { pass: 1, call: Call::Edit(Edit::Insert { at: 0, take: Side::Clip { clip: 0, frame: 0 }, len: 10 }),
+        told: Told::Edited(EditReply::Ok { len: 10 }) },
     Row { pass: 1, call: Call::Want { first: 5, len: 1 }, told: Told::Wanted(WantReply::Wanted { count: 1 }) },
     Row { pass: 1, call: Call::Claim, told: Told::Claimed { job: 1, recipe: Recipe::Source { clip: 0, frame: 5 } } },
     Row { pass: 1, call: Call::Cancel { first: 5, len: 1 }, told: Told::Cancelled(CancelReply::Cancelled { count: 1 }) },
@@ -33,7 +33,8 @@ const CANCELLED: [Row; 10] = [
 /// With one filed result kept, the latest stays.
 #[rattlefmt::skip]
 const ONE_FILED: [Row; 9] = [
-    Row { pass: 1, call: Call::Edit(Edit::Insert { at: 0, take: Side::Clip { clip: 0, frame: 0 }, len: 10 }), told: Told::Edited(EditReply::Ok { len: 10 }) },
+    Row { pass: 1, call: Call::Edit(Edit::Insert { at: 0, take: Side::Clip { clip: 0, frame: 0 }, len: 10 }),
+        told: Told::Edited(EditReply::Ok { len: 10 }) },
     Row { pass: 1, call: Call::Want { first: 0, len: 2 }, told: Told::Wanted(WantReply::Wanted { count: 2 }) },
     Row { pass: 1, call: Call::Claim, told: Told::Claimed { job: 1, recipe: Recipe::Source { clip: 0, frame: 0 } } },
     Row { pass: 1, call: Call::File { job: 1 }, told: Told::Filed(FileReply::Filed) },
@@ -47,7 +48,8 @@ const ONE_FILED: [Row; 9] = [
 /// Two held jobs and the stop are owed: of seven entries four stand, and a claim needs two more.
 #[rattlefmt::skip]
 const FULL: [Row; 7] = [
-    Row { pass: 1, call: Call::Edit(Edit::Insert { at: 0, take: Side::Clip { clip: 0, frame: 0 }, len: 10 }), told: Told::Edited(EditReply::Ok { len: 10 }) },
+    Row { pass: 1, call: Call::Edit(Edit::Insert { at: 0, take: Side::Clip { clip: 0, frame: 0 }, len: 10 }),
+        told: Told::Edited(EditReply::Ok { len: 10 }) },
     Row { pass: 1, call: Call::Want { first: 0, len: 3 }, told: Told::Wanted(WantReply::Wanted { count: 3 }) },
     Row { pass: 1, call: Call::Claim, told: Told::Claimed { job: 1, recipe: Recipe::Source { clip: 0, frame: 0 } } },
     Row { pass: 2, call: Call::Claim, told: Told::Claimed { job: 2, recipe: Recipe::Source { clip: 0, frame: 1 } } },
@@ -71,14 +73,21 @@ const EACH_REPLY: [Row; 47] = [
     Row { pass: 0, call: Call::Play { n: 0 }, told: Told::PastEnd { len: 0 } },
     Row { pass: 0, call: Call::Want { first: 0, len: 1 }, told: Told::Wanted(WantReply::PastEnd { len: 0 }) },
     Row { pass: 0, call: Call::Cancel { first: 0, len: 1 }, told: Told::Cancelled(CancelReply::PastEnd { len: 0 }) },
-    Row { pass: 0, call: Call::Edit(Edit::Insert { at: 1, take: Side::Black, len: 1 }), told: Told::Edited(EditReply::Refused(EditRefusal::PastEnd)) },
-    Row { pass: 0, call: Call::Edit(Edit::Insert { at: 0, take: Side::Clip { clip: 2, frame: 0 }, len: 1 }), told: Told::Edited(EditReply::Refused(EditRefusal::NoClip)) },
-    Row { pass: 0, call: Call::Edit(Edit::Insert { at: 0, take: Side::Clip { clip: 1, frame: 0 }, len: 1 }), told: Told::Edited(EditReply::Refused(EditRefusal::ShapeDiffers)) },
-    Row { pass: 0, call: Call::Edit(Edit::Insert { at: 0, take: Side::Clip { clip: 0, frame: 5 }, len: 6 }), told: Told::Edited(EditReply::Refused(EditRefusal::OutsideClip)) },
-    Row { pass: 0, call: Call::Edit(Edit::Insert { at: 0, take: Side::Black, len: 1000000 }), told: Told::Edited(EditReply::Ok { len: 1000000 }) },
-    Row { pass: 0, call: Call::Edit(Edit::Insert { at: 0, take: Side::Black, len: 1 }), told: Told::Edited(EditReply::Refused(EditRefusal::TooManyFrames)) },
+    Row { pass: 0, call: Call::Edit(Edit::Insert { at: 1, take: Side::Black, len: 1 }),
+        told: Told::Edited(EditReply::Refused(EditRefusal::PastEnd)) },
+    Row { pass: 0, call: Call::Edit(Edit::Insert { at: 0, take: Side::Clip { clip: 4, frame: 0 }, len: 1 }),
+        told: Told::Edited(EditReply::Refused(EditRefusal::NoClip)) },
+    Row { pass: 0, call: Call::Edit(Edit::Insert { at: 0, take: Side::Clip { clip: 2, frame: 0 }, len: 1 }),
+        told: Told::Edited(EditReply::Refused(EditRefusal::ShapeDiffers)) },
+    Row { pass: 0, call: Call::Edit(Edit::Insert { at: 0, take: Side::Clip { clip: 0, frame: 15 }, len: 6 }),
+        told: Told::Edited(EditReply::Refused(EditRefusal::OutsideClip)) },
+    Row { pass: 0, call: Call::Edit(Edit::Insert { at: 0, take: Side::Black, len: 1000000 }),
+        told: Told::Edited(EditReply::Ok { len: 1000000 }) },
+    Row { pass: 0, call: Call::Edit(Edit::Insert { at: 0, take: Side::Black, len: 1 }),
+        told: Told::Edited(EditReply::Refused(EditRefusal::TooManyFrames)) },
     Row { pass: 0, call: Call::Edit(Edit::Extract { at: 0, len: 1000000 }), told: Told::Edited(EditReply::Ok { len: 0 }) },
-    Row { pass: 0, call: Call::Edit(Edit::Insert { at: 0, take: Side::Clip { clip: 0, frame: 0 }, len: 10 }), told: Told::Edited(EditReply::Ok { len: 10 }) },
+    Row { pass: 0, call: Call::Edit(Edit::Insert { at: 0, take: Side::Clip { clip: 0, frame: 0 }, len: 10 }),
+        told: Told::Edited(EditReply::Ok { len: 10 }) },
     Row { pass: 0, call: Call::Edit(Edit::Extract { at: 9, len: 2 }), told: Told::Edited(EditReply::Refused(EditRefusal::PastEnd)) },
     Row { pass: 0, call: Call::Want { first: 0, len: 3 }, told: Told::Wanted(WantReply::Wanted { count: 3 }) },
     Row { pass: 0, call: Call::Want { first: 0, len: 4 }, told: Told::Wanted(WantReply::Wanted { count: 1 }) },
@@ -105,7 +114,8 @@ const EACH_REPLY: [Row; 47] = [
     Row { pass: 1, call: Call::Claim, told: Told::Claimed { job: 6, recipe: Recipe::Source { clip: 0, frame: 0 } } },
     Row { pass: 2, call: Call::Claim, told: Told::Full(Full::JournalFull { len: 35, owed: 2 }) },
     Row { pass: 0, call: Call::Play { n: 1 }, told: Told::Pending(Recipe::Source { clip: 0, frame: 1 }) },
-    Row { pass: 0, call: Call::Edit(Edit::Insert { at: 0, take: Side::Black, len: 1 }), told: Told::Full(Full::JournalFull { len: 36, owed: 2 }) },
+    Row { pass: 0, call: Call::Edit(Edit::Insert { at: 0, take: Side::Black, len: 1 }),
+        told: Told::Full(Full::JournalFull { len: 36, owed: 2 }) },
     Row { pass: 0, call: Call::Want { first: 0, len: 1 }, told: Told::Full(Full::JournalFull { len: 36, owed: 2 }) },
     Row { pass: 0, call: Call::Cancel { first: 0, len: 1 }, told: Told::Full(Full::JournalFull { len: 36, owed: 2 }) },
     Row { pass: 0, call: Call::Play { n: 0 }, told: Told::Full(Full::JournalFull { len: 36, owed: 2 }) },
@@ -119,7 +129,8 @@ const EACH_REPLY: [Row; 47] = [
 /// A held job whose frame is taken out and comes back by an undo stays closed, and its frame gets a new job.
 #[rattlefmt::skip]
 const UNDONE: [Row; 11] = [
-    Row { pass: 1, call: Call::Edit(Edit::Insert { at: 0, take: Side::Clip { clip: 0, frame: 0 }, len: 10 }), told: Told::Edited(EditReply::Ok { len: 10 }) },
+    Row { pass: 1, call: Call::Edit(Edit::Insert { at: 0, take: Side::Clip { clip: 0, frame: 0 }, len: 10 }),
+        told: Told::Edited(EditReply::Ok { len: 10 }) },
     Row { pass: 1, call: Call::Want { first: 5, len: 1 }, told: Told::Wanted(WantReply::Wanted { count: 1 }) },
     Row { pass: 1, call: Call::Claim, told: Told::Claimed { job: 1, recipe: Recipe::Source { clip: 0, frame: 5 } } },
     Row { pass: 1, call: Call::Edit(Edit::Extract { at: 5, len: 1 }), told: Told::Edited(EditReply::Ok { len: 9 }) },
@@ -139,7 +150,8 @@ const EXPORTS: [Row; 19] = [
     Row { pass: 0, call: Call::Undo, told: Told::Edited(EditReply::NothingToUndo) },
     Row { pass: 0, call: Call::Redo, told: Told::Edited(EditReply::NothingToRedo) },
     Row { pass: 1, call: Call::Export(Ending::Sink), told: Told::Idle { len: 3 } },
-    Row { pass: 0, call: Call::Edit(Edit::Insert { at: 0, take: Side::Clip { clip: 0, frame: 0 }, len: 10 }), told: Told::Edited(EditReply::Ok { len: 10 }) },
+    Row { pass: 0, call: Call::Edit(Edit::Insert { at: 0, take: Side::Clip { clip: 0, frame: 0 }, len: 10 }),
+        told: Told::Edited(EditReply::Ok { len: 10 }) },
     Row { pass: 0, call: Call::Ask, told: Told::Asked(AskReply::Asked { export: 1 }) },
     Row { pass: 0, call: Call::Edit(Edit::Extract { at: 0, len: 4 }), told: Told::Edited(EditReply::Ok { len: 6 }) },
     Row { pass: 0, call: Call::Ask, told: Told::Asked(AskReply::Asked { export: 2 }) },
@@ -159,7 +171,8 @@ const EXPORTS: [Row; 19] = [
 /// After an undo and a redo the job stays closed.
 #[rattlefmt::skip]
 const REDONE: [Row; 9] = [
-    Row { pass: 0, call: Call::Edit(Edit::Insert { at: 0, take: Side::Clip { clip: 0, frame: 0 }, len: 10 }), told: Told::Edited(EditReply::Ok { len: 10 }) },
+    Row { pass: 0, call: Call::Edit(Edit::Insert { at: 0, take: Side::Clip { clip: 0, frame: 0 }, len: 10 }),
+        told: Told::Edited(EditReply::Ok { len: 10 }) },
     Row { pass: 0, call: Call::Want { first: 5, len: 1 }, told: Told::Wanted(WantReply::Wanted { count: 1 }) },
     Row { pass: 0, call: Call::Undo, told: Told::Edited(EditReply::Ok { len: 0 }) },
     Row { pass: 0, call: Call::Redo, told: Told::Edited(EditReply::Ok { len: 10 }) },
@@ -173,7 +186,8 @@ const REDONE: [Row; 9] = [
 /// A job that is held.
 #[rattlefmt::skip]
 const HELD: [Row; 3] = [
-    Row { pass: 0, call: Call::Edit(Edit::Insert { at: 0, take: Side::Clip { clip: 0, frame: 0 }, len: 10 }), told: Told::Edited(EditReply::Ok { len: 10 }) },
+    Row { pass: 0, call: Call::Edit(Edit::Insert { at: 0, take: Side::Clip { clip: 0, frame: 0 }, len: 10 }),
+        told: Told::Edited(EditReply::Ok { len: 10 }) },
     Row { pass: 0, call: Call::Want { first: 5, len: 1 }, told: Told::Wanted(WantReply::Wanted { count: 1 }) },
     Row { pass: 1, call: Call::Claim, told: Told::Claimed { job: 1, recipe: Recipe::Source { clip: 0, frame: 5 } } },
 ];
@@ -181,17 +195,29 @@ const HELD: [Row; 3] = [
 /// What comes while the job is held, as entry 4.
 #[rattlefmt::skip]
 const LATE: [Late; 11] = [
-    Late { call: Call::Cancel { first: 5, len: 1 }, told: Told::Cancelled(CancelReply::Cancelled { count: 1 }), filed: FileReply::Closed { at: 4 }, released: ReleaseReply::Closed { at: 4 } },
-    Late { call: Call::Edit(Edit::Extract { at: 5, len: 1 }), told: Told::Edited(EditReply::Ok { len: 9 }), filed: FileReply::Closed { at: 4 }, released: ReleaseReply::Closed { at: 4 } },
-    Late { call: Call::Undo, told: Told::Edited(EditReply::Ok { len: 0 }), filed: FileReply::Closed { at: 4 }, released: ReleaseReply::Closed { at: 4 } },
-    Late { call: Call::Edit(Edit::Lift { at: 0, len: 10 }), told: Told::Edited(EditReply::Ok { len: 10 }), filed: FileReply::Closed { at: 4 }, released: ReleaseReply::Closed { at: 4 } },
-    Late { call: Call::Edit(Edit::Extract { at: 0, len: 1 }), told: Told::Edited(EditReply::Ok { len: 9 }), filed: FileReply::Filed, released: ReleaseReply::Released },
-    Late { call: Call::Edit(Edit::Slip { at: 0, by: 0 }), told: Told::Edited(EditReply::Ok { len: 10 }), filed: FileReply::Filed, released: ReleaseReply::Released },
-    Late { call: Call::Edit(Edit::Split { at: 5 }), told: Told::Edited(EditReply::Ok { len: 10 }), filed: FileReply::Filed, released: ReleaseReply::Released },
-    Late { call: Call::Edit(Edit::Relink { at: 0, clip: 0, first: 0 }), told: Told::Edited(EditReply::Ok { len: 10 }), filed: FileReply::Filed, released: ReleaseReply::Released },
-    Late { call: Call::Edit(Edit::Insert { at: 11, take: Side::Clip { clip: 0, frame: 0 }, len: 1 }), told: Told::Edited(EditReply::Refused(EditRefusal::PastEnd)), filed: FileReply::Filed, released: ReleaseReply::Released },
-    Late { call: Call::Edit(Edit::Dissolve { at: 0, len: 4 }), told: Told::Edited(EditReply::Refused(EditRefusal::NoCut)), filed: FileReply::Filed, released: ReleaseReply::Released },
-    Late { call: Call::Cancel { first: 10, len: 1 }, told: Told::Cancelled(CancelReply::PastEnd { len: 10 }), filed: FileReply::Filed, released: ReleaseReply::Released },
+    Late { call: Call::Cancel { first: 5, len: 1 }, told: Told::Cancelled(CancelReply::Cancelled { count: 1 }),
+        filed: FileReply::Closed { at: 4 }, released: ReleaseReply::Closed { at: 4 } },
+    Late { call: Call::Edit(Edit::Extract { at: 5, len: 1 }), told: Told::Edited(EditReply::Ok { len: 9 }),
+        filed: FileReply::Closed { at: 4 }, released: ReleaseReply::Closed { at: 4 } },
+    Late { call: Call::Undo, told: Told::Edited(EditReply::Ok { len: 0 }),
+        filed: FileReply::Closed { at: 4 }, released: ReleaseReply::Closed { at: 4 } },
+    Late { call: Call::Edit(Edit::Lift { at: 0, len: 10 }), told: Told::Edited(EditReply::Ok { len: 10 }),
+        filed: FileReply::Closed { at: 4 }, released: ReleaseReply::Closed { at: 4 } },
+    Late { call: Call::Edit(Edit::Extract { at: 0, len: 1 }), told: Told::Edited(EditReply::Ok { len: 9 }),
+        filed: FileReply::Filed, released: ReleaseReply::Released },
+    Late { call: Call::Edit(Edit::Slip { at: 0, by: 0 }), told: Told::Edited(EditReply::Ok { len: 10 }),
+        filed: FileReply::Filed, released: ReleaseReply::Released },
+    Late { call: Call::Edit(Edit::Split { at: 5 }), told: Told::Edited(EditReply::Ok { len: 10 }),
+        filed: FileReply::Filed, released: ReleaseReply::Released },
+    Late { call: Call::Edit(Edit::Relink { at: 0, clip: 0, first: 0 }), told: Told::Edited(EditReply::Ok { len: 10 }),
+        filed: FileReply::Filed, released: ReleaseReply::Released },
+    Late { call: Call::Edit(Edit::Insert { at: 11, take: Side::Clip { clip: 0, frame: 0 }, len: 1 }),
+        told: Told::Edited(EditReply::Refused(EditRefusal::PastEnd)),
+        filed: FileReply::Filed, released: ReleaseReply::Released },
+    Late { call: Call::Edit(Edit::Dissolve { at: 0, len: 4 }), told: Told::Edited(EditReply::Refused(EditRefusal::NoCut)),
+        filed: FileReply::Filed, released: ReleaseReply::Released },
+    Late { call: Call::Cancel { first: 10, len: 1 }, told: Told::Cancelled(CancelReply::PastEnd { len: 10 }),
+        filed: FileReply::Filed, released: ReleaseReply::Released },
 ];
 
 fn crosses_threads<T: Send>(_value: &T) {}

@@ -3,7 +3,6 @@
 ghost use Rattle.std.specs.Prelude.{◌≤◌};
 ghost use Rattle.tl_limits.specs.Limits.{IsJournalLimit};
 
-use super::numbers::Numbers;
 use crate::board::Board;
 use crate::claim::{Claim, Stopper};
 use crate::reply::{
@@ -13,6 +12,7 @@ use crate::reply::{
 use std::alloc::Global;
 use std::marker::Model;
 use std::process::Abort;
+use test_media::Numbers;
 use time_list::ListLane;
 use tl_model::{Edit, EditReply, Ending, Name, Recipe, RenderFault, Rendered};
 
@@ -76,7 +76,7 @@ struct Hand {
 impl Model for Hand {
     ghost use Rattle.tl_model.specs.Media.{CanRender};
     ghost use Rattle.render_core.specs.Claim.{ClaimOf};
-    ghost use Rattle.render_core.specs.Numbers.{numbers};
+    ghost use Rattle.test_media.specs.Numbers.{numbers};
 
     ghost Value = { ClaimOf };
 
