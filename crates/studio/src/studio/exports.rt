@@ -81,7 +81,8 @@ impl<M: Media + Drop, L: Lane> Studio<M, L> {
         requires knows { Knows M.library self.now pass.old }
         requires held { HoldsExport (state_of M.library (desk_at self.now pass.old)) pass.old.number job.export job.name
             (cells job.segments) }
-        ensures told { Enters M.library (desk_at self.now pass.old) (desk_at self.now pass.new) (act.End job.export ending) (of_done result) }
+        ensures told { Enters M.library (desk_at self.now pass.old) (desk_at self.now pass.new) (act.End job.export ending)
+            (of_done result) }
         ensures knows { Knows M.library self.now pass.new }
     {
         self.enter(rt, pass, EndCall { job, ending });

@@ -89,7 +89,8 @@ impl<M: Media + Drop, L: Lane> Studio<M, L> {
     pub fn release<R: Wait>(&self, rt: &R, pass: &mut Pass<M, L>, claim: Claim) -> ReleaseReply
         requires knows { Knows M.library self.now pass.old }
         requires held { Holds (state_of M.library (desk_at self.now pass.old)) pass.old.number claim.job claim.recipe }
-        ensures told { Enters M.library (desk_at self.now pass.old) (desk_at self.now pass.new) (act.Release claim.job) (of_release result) }
+        ensures told { Enters M.library (desk_at self.now pass.old) (desk_at self.now pass.new) (act.Release claim.job)
+            (of_release result) }
         ensures knows { Knows M.library self.now pass.new }
     {
         self.enter(rt, pass, ReleaseCall { claim })
