@@ -1,6 +1,6 @@
 """Reads scripts and writes them anew, or names the first fault that they have: docs/SCRIPT.md, anew.
 
-Written from those rules, not from the program, for whose answers it stands as the measure.
+It keeps to those rules. Its writer had also read the definitions that the program is proved by, so a misreading may be in both.
 """
 
 import re
