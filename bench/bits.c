@@ -20,11 +20,11 @@ struct recorded {
 };
 
 /* The calls of the library in Rattle. A slice is a place and a length. */
-uint32_t bits_c_parity(const uint8_t *bytes, size_t count);
-uint64_t bits_c_read(const uint8_t *bytes, size_t count, const uint16_t *recorded, size_t bits);
-size_t bits_c_write(const uint16_t *recorded, size_t bits, uint8_t *out, size_t room);
-uint64_t bits_c_read_symbols(const uint8_t *bytes, size_t count, const struct recorded *recorded, size_t symbols);
-size_t bits_c_write_symbols(const struct recorded *recorded, size_t symbols, uint8_t *out, size_t room);
+uint32_t codec_c_parity(const uint8_t *bytes, size_t count);
+uint64_t codec_c_read_bits(const uint8_t *bytes, size_t count, const uint16_t *recorded, size_t bits);
+size_t codec_c_write_bits(const uint16_t *recorded, size_t bits, uint8_t *out, size_t room);
+uint64_t codec_c_read_symbols(const uint8_t *bytes, size_t count, const struct recorded *recorded, size_t symbols);
+size_t codec_c_write_symbols(const struct recorded *recorded, size_t symbols, uint8_t *out, size_t room);
 
 /* ---- states. RFC 9043 sections 3.8.1.3 to 3.8.1.5 */
 
@@ -346,17 +346,17 @@ static bool same_part(size_t count)
     return count == part_count && memcmp(out, part, count) == 0;
 }
 
-static bool read_ours(void) { return bits_c_read(part, part_count, bits, bit_count) == 0; }
+static bool read_ours(void) { return codec_c_read_bits(part, part_count, bits, bit_count) == 0; }
 static bool read_twin(void) { return twin_read(part, part_count, bits, bit_count) == 0; }
-static bool write_ours(void) { return same_part(bits_c_write(bits, bit_count, out, out_room)); }
+static bool write_ours(void) { return same_part(codec_c_write_bits(bits, bit_count, out, out_room)); }
 static bool write_twin(void) { return same_part(twin_write(bits, bit_count, out, out_room)); }
-static bool read_symbols_ours(void) { return bits_c_read_symbols(part, part_count, symbols, symbol_count) == 0; }
+static bool read_symbols_ours(void) { return codec_c_read_symbols(part, part_count, symbols, symbol_count) == 0; }
 static bool read_symbols_twin(void) { return twin_read_symbols(part, part_count, symbols, symbol_count) == 0; }
-static bool write_symbols_ours(void) { return same_part(bits_c_write_symbols(symbols, symbol_count, out, out_room)); }
+static bool write_symbols_ours(void) { return same_part(codec_c_write_symbols(symbols, symbol_count, out, out_room)); }
 static bool write_symbols_twin(void) { return same_part(twin_write_symbols(symbols, symbol_count, out, out_room)); }
 
 static uint32_t parity_wanted;
-static bool parity_ours(void) { return bits_c_parity(noise_bytes, PARITY_BYTES) == parity_wanted; }
+static bool parity_ours(void) { return codec_c_parity(noise_bytes, PARITY_BYTES) == parity_wanted; }
 static bool parity_twin(void) { return twin_parity(noise_bytes, PARITY_BYTES) == parity_wanted; }
 
 static double timed(bool (*pass)(void), const char *name)

@@ -1,7 +1,0 @@
-use Rattle.std.proofs.Common.{ℕ, ◌<◌}
-use Rattle.std.specs.Prelude.{slice_index}
-use Rattle.ffv1_range.specs.Transition.{IsKept}
-use Rattle.bits_c.proofs.bits.written.Given as goal
-
-abbrev pub invariant-loop-coded : goal.invariant-loop-coded
-invariant-loop-coded l = (k : ℕ) → k < 16384 → IsKept l.writer.table (slice_index l.states k)

@@ -1,7 +1,0 @@
-use Rattle.std.proofs.Common.{ℕ, List, sym, subst}
-use Rattle.ffv1_range.specs.Transition.{AllKept}
-use Rattle.bits_c.proofs.symbols.written_with.Goals as goal
-
--- each set is fresh, which a table keeps
-pub loop-coded-init : goal.loop-coded-init
-loop-coded-init c = (λ k d small. subst (λ (set : List ℕ). AllKept c.start-writer.result.table set) (sym (c.requires.fresh k d small)) c.start-writer.ensures.fresh, c.requires.len)
