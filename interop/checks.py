@@ -1,8 +1,6 @@
 #!/usr/bin/env python3
 """All checks of this folder, over the program that TIMELINE_PROGRAM or ../timeline names. `run` calls it."""
 
-import os
-import shlex
 import shutil
 import sys
 from pathlib import Path
@@ -22,8 +20,8 @@ from segments import check_segments
 from texts import check_lists
 from tools import HERE
 
-# A program that reads edit lists and scripts as `texts` and `script_texts` say, where there is one.
-TEXT_READER = shlex.split(os.environ.get("TIMELINE_TEXTS", ""))
+# The proved program that reads edit lists and scripts as `texts` and `script_texts` say, where it is built.
+TEXT_READER = HERE.parent / "crates" / "texts_check" / "out" / "texts_check"
 
 PARTS = {
     "ids": lambda report, work: check_ids(report),
@@ -41,7 +39,7 @@ PARTS = {
 
 
 def reader_of(kind: str) -> List[str]:
-    return [*TEXT_READER, kind] if TEXT_READER else []
+    return [str(TEXT_READER), kind] if TEXT_READER.exists() else []
 
 
 def check_edit_lists(report: Report):
