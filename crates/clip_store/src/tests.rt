@@ -1,9 +1,15 @@
-//! Loads that are refused, and loads that aren't.
+//! Loads that are refused and loads that aren't, dissolves, and black.
 
-use super::{LoadFault, Shelf};
-use ffv1_record::RecordFault;
+ghost use Rattle.clip_store.specs.Readying.{IsGridFor};
+
+use super::{Format, LoadFault, Shelf};
+use crate::dissolve::blend;
+use ffv1_record::{Coder, RecordFault};
 use mkv_read::ClipFault;
+use pic_planes::{Chroma, Picture, Shape};
+use std::alloc::{AllocError, Global};
 use std::test::*;
+use tl_model::{Media, Picked, Recipe};
 
 /// A file with one packet. Its record has 4:2:0 chroma and a grid of 3 x 2 slices.
 #[rattlefmt::skip]
@@ -46,5 +52,66 @@ fn loads(rt: HostRuntime) -> Result<(), Fail> {
         bytes[place] = byte;
         assert_eq!(rt; shelf.load(rt.alloc(), name, 0, bytes), answer);
     }
+    Ok(())
+}
+
+// A picture's samples, plane after plane.
+fn samples_of(alloc: Global, picture: &Picture) -> Result<Vec<u8>, AllocError> {
+    let mut samples = Vec::new(alloc);
+    let shape = picture.shape();
+    for plane in 0..shape.plane_count() {
+        for y in 0..shape.plane_height(plane) {
+            samples.extend_from_slice(picture.row(plane, y))?;
+        }
+    }
+    Ok(samples)
+}
+
+// What a step of a dissolve from 16 to 235 gives: a weight, and the sample.
+const STEPS: [(u8, u8); 3] = [(64, 71), (128, 126), (192, 180)];
+
+#[test]
+fn dissolves(rt: HostRuntime) -> Result<(), Fail> {
+    let shape = Shape::of(1, 1, Chroma::Grey).unwrap();
+    let mut from = Picture::zero(rt.alloc(), shape)?;
+    from.put_samples(0, 0, 0, &[16]);
+    let mut to = Picture::zero(rt.alloc(), shape)?;
+    to.put_samples(0, 0, 0, &[235]);
+    for (weight, sample) in STEPS {
+        let between = blend(rt.alloc(), &from, &to, weight)?;
+        assert_eq!(rt; between.row(0, 0), [sample].as_slice());
+    }
+    Ok(())
+}
+
+// Whether a format of its own gives a black picture of these samples.
+fn is_black(alloc: Global, shape: Shape, samples: &[u8]) -> bool
+    requires { IsGridFor shape 1 1 }
+{
+    let format = Format::Own {
+        shape,
+        coder: Coder::Range,
+        h: 1,
+        v: 1,
+    };
+    match Shelf::start(alloc).ready(alloc, format) {
+        Ok(library) => match library.render(alloc, Recipe::Black) {
+            Ok(Picked::Frame(picture)) => match samples_of(alloc, &picture) {
+                Ok(found) => found.as_slice() == samples,
+                Err(_) => false,
+            },
+            _ => false,
+        },
+        Err(_) => false,
+    }
+}
+
+#[test]
+fn black(rt: HostRuntime) -> Result<(), Fail> {
+    let shape = Shape::of(3, 3, Chroma::Shifts { h: 1, v: 1 }).unwrap();
+    let samples = [
+        16, 16, 16, 16, 16, 16, 16, 16, 16, 128, 128, 128, 128, 128, 128, 128, 128,
+    ];
+    assert!(rt; is_black(rt.alloc(), shape, &samples));
     Ok(())
 }
