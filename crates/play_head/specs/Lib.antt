@@ -8,7 +8,6 @@ pub mod Putting
 pub mod Told
 pub mod Saying
 pub mod Acts
-pub mod Blacks
 pub mod Playing
 pub mod Marking
 pub mod PlayingLine
@@ -17,4 +16,3 @@ pub mod PlayingActs
 pub mod Giving
 pub mod Listing
 pub mod Carrying
-pub mod Blanks

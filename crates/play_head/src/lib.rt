@@ -27,6 +27,3 @@ pub use ending::Playback;
 pub use exports::{carry, finish_exports};
 pub use roll::Roll;
 pub use stop::Stop;
-
-#[cfg(test)]
-mod tests;

@@ -1,6 +1,6 @@
 //! A library of no clips, whose black pictures have one grey sample.
 
-ghost use Rattle.play_head.specs.Blacks.{blacks};
+ghost use Rattle.play_tests.specs.Blacks.{blacks};
 
 use pic_planes::{Chroma, Picture, Shape};
 use std::alloc::{AllocError, Global};
@@ -8,7 +8,7 @@ use std::sync::Arc;
 use tl_model::{EncodeFault, Media, Picked, Recipe};
 
 #[derive(Drop)]
-pub(super) struct Blacks;
+pub(crate) struct Blacks;
 
 impl Media for Blacks {
     type Frame = Picture;

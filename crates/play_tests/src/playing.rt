@@ -1,12 +1,8 @@
 //! The calls of a roll, in order, and scripts that are played over a desk alone.
 
-mod blacks;
-mod blanks;
-mod carrying;
-
-use super::*;
-use blacks::Blacks;
+use crate::blacks::Blacks;
 use edit_desk::{Alone, Desk};
+use play_head::{Roll, Stop, play_script};
 use render_core::Stopper;
 use script_lang::read_script;
 use std::alloc::Global;

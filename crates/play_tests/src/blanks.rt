@@ -1,13 +1,13 @@
 //! A library of one clip, of one frame, that doesn't fit.
 
-ghost use Rattle.play_head.specs.Blanks.{blanks};
+ghost use Rattle.play_tests.specs.Blanks.{blanks};
 
 use std::alloc::{AllocError, Global};
 use std::sync::Arc;
 use tl_model::{EncodeFault, Media, Picked, Recipe};
 
 #[derive(Drop)]
-pub(super) struct Blanks;
+pub(crate) struct Blanks;
 
 impl Media for Blanks {
     type Frame = u8;

@@ -1,8 +1,8 @@
 //! Exports of a board with one caller.
 
-use super::blanks::Blanks;
-use crate::exports::finish_exports;
+use crate::blanks::Blanks;
 use edit_desk::{Alone, Desk};
+use play_head::finish_exports;
 use render_core::{AskReply, Stopper};
 use std::alloc::Global;
 use std::process::Abort;
