@@ -30,7 +30,7 @@ const TEXTS: [(&str, bool); 16] = [
 ];
 
 /// Whether a text is a line, and is put as it was read.
-#[tactic(auto, using(crate::proofs::Soundness::listed_if_sound))]
+#[tactic(auto, using(script_lang::proofs::Soundness::listed_if_sound))]
 fn is_put_again(alloc: Global, text: &str) -> Result<bool, AllocError> {
     match read_line(alloc, text.as_bytes())? {
         Some(line) => {
@@ -51,7 +51,7 @@ fn lines_are_put_as_they_are_read(rt: HostRuntime) -> Result<(), Fail> {
 }
 
 #[test]
-#[tactic(auto, unfolding(crate::specs::Line::fields))]
+#[tactic(auto, unfolding(script_lang::specs::Line::fields))]
 fn an_ending_is_put(rt: HostRuntime) -> Result<(), Fail> {
     let mut out = Vec::new(rt.alloc());
     put_line(
