@@ -1,4 +1,4 @@
--- A library for tests: it has no clip, and every picture is black, of one grey sample.
+-- A library for tests: its one clip of one frame does not fit, and every picture is black, of one grey sample.
 use Rattle.std.specs.Prelude.{ℕ, true, false, List, [], ◌∷◌, None, Result, Ok, Err}
 use Rattle.tl_model.specs.Media.{Library}
 use Rattle.tl_model.specs.declared.fault.FrameFault.TheVariants as fault
@@ -8,8 +8,8 @@ use Rattle.pic_planes.specs.Shape.{layout}
 
 abbrev pub blacks : Library Image
 blacks = record {
-  clips = 0;
-  frames = λ clip. 0;
+  clips = 1;
+  frames = λ clip. 1;
   fits = λ clip. false;
   copies = λ clip. false;
   packet = λ clip frame. [];

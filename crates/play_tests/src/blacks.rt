@@ -18,11 +18,11 @@ impl Media for Blacks {
     fn lawful(&self) {}
 
     fn clips(&self) -> u32 {
-        0
+        1
     }
 
     fn frames(&self, _clip: u32) -> u32 {
-        0
+        1
     }
 
     fn fits(&self, _clip: u32) -> bool {
