@@ -1,4 +1,4 @@
-//! A library of no clips, whose black pictures have one grey sample.
+//! A library whose one clip does not fit, and whose black pictures have one grey sample.
 
 ghost use Rattle.play_tests.specs.Blacks.{blacks};
 
