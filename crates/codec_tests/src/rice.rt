@@ -83,7 +83,8 @@ fn a_run_goes_on(rt: HostRuntime) -> Result<(), Fail> {
     let mut bits = BitWriter::start(rt.alloc());
     let mut run = RunWriter::start();
     run.line(&mut bits, &mut states, &contexts, &[0; 300])?;
-    run.line(&mut bits, &mut states, &contexts[..3], &[0, 0, 5])?;
+    let mut fresh = [VlcState::fresh()];
+    run.line(&mut bits, &mut fresh, &contexts[..3], &[0, 0, 5])?;
     assert_eq!(rt;
         bits.finish().as_slice(),
         [0xFF, 0xFF, 0xFE, 0x04, 0x40].as_slice()

@@ -31,6 +31,7 @@ fn request_of(words: &[String]) -> Asked {
     }
 }
 
+#[tactic(auto, using(text_words::proofs::Lining::few_lines))]
 fn answer_to(alloc: Global, asked: Asked, text: &[u8]) -> Result<Vec<u8>, AllocError> {
     if text.len() > MAX_TEXT_BYTES as usize {
         return Vec::from_slice(alloc, b"too large\n");

@@ -11,4 +11,4 @@ pub line-requires-clause-contexts : goal.line-requires-clause-contexts
 line-requires-clause-contexts g c k h = zeros_below 300 k
 
 pub line-requires-2-clause-contexts : goal.line-requires-2-clause-contexts
-line-requires-2-clause-contexts g c k h = zeros_below 300 k
+line-requires-2-clause-contexts g c k h = zeros_below 3 k
