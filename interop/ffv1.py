@@ -252,6 +252,11 @@ def reaches_ends(parameters: Parameters, width: int, height: int) -> bool:
     return all((start >> shift) + divided_up(size - start, shift) == divided_up(size, shift) for size, start, shift in starts)
 
 
+def suits(parameters: Parameters, width: int, height: int) -> bool:
+    """Whether pictures of a size can be coded under a record: its grid is at most the size, and reaches the ends of the planes."""
+    return parameters.columns <= width and parameters.rows <= height and reaches_ends(parameters, width, height)
+
+
 def covered(parameters: Parameters, width: int, height: int) -> bytes:
     """For each sample, plane by plane, whether one of the grid's cells has it: 1 or 0."""
     planes = blank_planes(parameters.shape, width, height)

@@ -126,5 +126,7 @@ def wanted_of(record: bytes, packet: bytes) -> Tuple[Tuple[str, int, bytes], int
     if fault_of(record):
         return ("Arguments", 0, b""), WIDTH * HEIGHT
     parameters = read_record(record)
+    if not ffv1.suits(parameters, WIDTH, HEIGHT):
+        return ("Arguments", 0, b""), WIDTH * HEIGHT
     size = sum(across * down for across, down in ffv1.plane_sizes(parameters.shape, WIDTH, HEIGHT))
     return ffv1.answer(parameters, WIDTH, HEIGHT, packet), size
