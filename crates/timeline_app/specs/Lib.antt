@@ -1,5 +1,6 @@
-pub mod Script
-pub mod Reading
-pub mod Lines
-pub mod Run
-pub mod Top
+pub mod Course
+pub mod Ending
+pub mod Head
+pub mod Runs
+pub mod Session
+pub mod Words

@@ -1,0 +1,15 @@
+//! Tests of the top call over objects in memory: whole scripts, with what each part of the outside got.
+#![tactic(auto)]
+
+#[cfg(test)]
+mod clips;
+#[cfg(test)]
+mod courses;
+#[cfg(test)]
+mod failing;
+#[cfg(test)]
+mod lists;
+#[cfg(test)]
+mod running;
+#[cfg(test)]
+mod words;
