@@ -17,6 +17,7 @@ from real import check_real
 from report import Report
 from script_texts import check_scripts
 from segments import check_segments
+from sessions import check_sessions
 from texts import check_lists
 from tools import HERE
 
@@ -35,6 +36,7 @@ PARTS = {
     "frames": check_frames,
     "lists": lambda report, work: check_edit_lists(report),
     "scripts": lambda report, work: check_scripts(report, reader_of("script")),
+    "sessions": check_sessions,
 }
 
 

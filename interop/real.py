@@ -13,6 +13,7 @@ import reader
 from good import check_cut, packet_faults
 from mkv import Id
 from report import Report, differs
+from session_clips import open_sizes
 from tools import changed, ffmpeg, frames_of, has_encoder, mkvmerge, script, sums_of, timeline
 
 FRAMES, LENGTH, RATE = 30, 26, 25
@@ -98,14 +99,8 @@ def having(it: Bench, shape: str, make: Callable[[], None]) -> Callable[[], None
 
 
 def opened(it: Bench, make: Callable[[], None]):
-    """Spells the sizes of a file's Clusters as unknown, as other programs do that write to a pipe."""
     make()
-    data = bytearray((it.folder / "a.mkv").read_bytes())
-    segment = reader.first(reader.elements(data, 0, len(data), reader.FILE)[0], Id.SEGMENT)
-    for cluster in reader.of_id(segment.children, Id.CLUSTER):
-        width = cluster.start - cluster.at - 4
-        data[cluster.at + 4 : cluster.start] = ((2 << 7 * width) - 1).to_bytes(width, "big")
-    (it.folder / "a.mkv").write_bytes(data)
+    open_sizes(it.folder / "a.mkv")
 
 
 def by_ffmpeg(it: Bench) -> Dict[str, Callable[[], None]]:
