@@ -7,6 +7,7 @@ from pathlib import Path
 from typing import List
 
 from bad import check_bad_input
+from damaged_clips import check_damaged_clips
 from demo import check_demo
 from each_byte import check_each_byte
 from frames import check_frames, check_reader
@@ -36,6 +37,7 @@ PARTS = {
     "frames": check_frames,
     "lists": lambda report, work: check_edit_lists(report),
     "scripts": lambda report, work: check_scripts(report, reader_of("script")),
+    "damaged": check_damaged_clips,
     "sessions": check_sessions,
 }
 
