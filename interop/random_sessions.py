@@ -35,7 +35,7 @@ def kind(chroma: str, size: Tuple[int, int], coder: str, **more) -> Kind:
 
 WORLDS = (
     World("grey, two coders", ((kind("gray", (16, 10), "range_def"), 12), (kind("gray", (16, 10), "rice"), 9))),
-    World("4:2:0, clips of one record", ((kind("yuv420p", (12, 8), "rice"), 14), (kind("yuv420p", (12, 8), "rice", is_noisy=True), 10))),
+    World("4:2:0, clips of one record", ((kind("yuv420p", (12, 8), "rice"), 14), (kind("yuv420p", (12, 8), "rice", noise=60), 10))),
     World(
         "4:2:2, a format of its own",
         ((kind("yuv422p", (16, 8), "range_def"), 10), (kind("yuv422p", (16, 8), "rice", has_parity=False), 10)),

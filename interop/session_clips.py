@@ -23,7 +23,7 @@ class Kind(NamedTuple):
     has_parity: bool = True
     context: int = 0
     pattern: str = PATTERNS[0]
-    is_noisy: bool = False
+    noise: int = 0
 
     def name(self) -> str:
         parity = "parity" if self.has_parity else "no parity"
@@ -45,7 +45,7 @@ def run_ffmpeg(words: List, target: Path):
 
 def encode(kind: Kind, frames: int, target: Path):
     across, down = (max(96, it + it % 2) for it in (kind.width, kind.height))
-    noise = ",noise=alls=60:allf=t" if kind.is_noisy else ""
+    noise = f",noise=alls={kind.noise}:allf=t" if kind.noise else ""
     run_ffmpeg(
         ["-f", "lavfi", "-i", f"{kind.pattern}=size={across}x{down}:rate={RATE}", "-frames:v", frames]
         + ["-vf", f"scale={kind.width}:{kind.height},format={kind.chroma}{noise}", "-pix_fmt", kind.chroma]

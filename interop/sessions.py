@@ -69,7 +69,7 @@ def small_pairs() -> Iterator[Pair]:
     )
     for number, (chroma, width, height, (coder, slices), (other, other_slices)) in enumerate(rows):
         is_same = (coder, slices) == (other, other_slices)
-        first = Kind(chroma, width, height, coder, slices, number % 3 > 0, number % 2, is_noisy=number % 4 == 1)
+        first = Kind(chroma, width, height, coder, slices, number % 3 > 0, number % 2, noise=60 * (number % 4 == 1))
         second = Kind(chroma, width, height, other, other_slices, number % 3 > 0 if is_same else number % 2 > 0)
         yield Pair(first, second._replace(context=first.context if is_same else 0, pattern="testsrc"))
 
