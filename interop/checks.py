@@ -10,6 +10,7 @@ from bad import check_bad_input
 from damaged_clips import check_damaged_clips
 from demo import check_demo
 from each_byte import check_each_byte
+from ends import check_ends
 from frames import check_frames, check_reader
 from good import check_clips
 from ids import check_ids
@@ -38,6 +39,7 @@ PARTS = {
     "lists": lambda report, work: check_edit_lists(report),
     "scripts": lambda report, work: check_scripts(report, reader_of("script")),
     "damaged": check_damaged_clips,
+    "ends": check_ends,
     "sessions": check_sessions,
 }
 
