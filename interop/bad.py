@@ -176,7 +176,8 @@ def option_words():
     """Options within their bounds, at their ends and past them."""
     for given in ("--workers 0", "--workers 16", "--cache 1", "--cache 4096", "--journal 16", "--journal 4000000"):
         yield Try(f"words s {given}", done(FRAMES), 0, words=("s", *given.split()), writes="o.mkv")
-    for given in ("--workers 17", "--cache 0", "--cache 4097", "--journal 15", "--journal 4000001", "--cache", "--cache 1 --cache 2", "--speed 1"):
+    past = ("--workers 17", "--cache 0", "--cache 4097", "--journal 15", "--journal 4000001")
+    for given in (*past, "--cache", "--cache 1 --cache 2", "--speed 1"):
         yield Try(f"words s {given}", USAGE, 2, words=("s", *given.split()))
 
 

@@ -100,9 +100,10 @@ def check_output(report: Report, folder: Path):
 
 def check_screen(report: Report, folder: Path):
     """The first picture takes the place of what an earlier run showed; where nothing is shown it stays."""
-    for name, lines, wanted in (("kept", ["insert 0 A 0 2"], b"old" * 100), ("replaced", ["insert 0 black 0 2", "show 1"], black_samples(OWN, 2, 2))):
+    old, new = b"old" * 100, black_samples(OWN, 2, 2)
+    for name, lines, wanted in (("kept", ["insert 0 A 0 2"], old), ("replaced", ["insert 0 black 0 2", "show 1"], new)):
         lay(folder / name, lines)
-        (folder / name / "screen.yuv").write_bytes(b"old" * 100)
+        (folder / name / "screen.yuv").write_bytes(old)
         ran = timeline(["s"], folder / name)
         shown = (folder / name / "screen.yuv").read_bytes()
         report.check(f"the screen of an earlier run is {name}", [differs("the status", ran.status, 0), differs("it", shown, wanted)])
@@ -176,7 +177,8 @@ def check_long(report: Report, folder: Path):
         (folder / "s").write_text("".join(f"{it}\n" for it in (*head, *lines)))
         ran = timeline(["s"], folder)
         wanted = ["ok 1", "ok 2", "asked 1", f"export 1 {end}"]
-        report.check(f"a frame of noise in {name}", [differs("the output", ran.out.splitlines(), wanted), differs("the status", ran.status, status)])
+        faults = [differs("the output", ran.out.splitlines(), wanted), differs("the status", ran.status, status)]
+        report.check(f"a frame of noise in {name}", faults)
 
 
 def check_ends(report: Report, work: Path):

@@ -1,4 +1,4 @@
-"""Random scripts over small clips: the lines, the screen and the exports of each are those of the model in `session_model`, byte by byte."""
+"""Random scripts over small clips: lines, screen and exports of each are those of the model in `session_model`, byte by byte."""
 
 from pathlib import Path
 from random import Random
@@ -46,7 +46,10 @@ WORLDS = (
         ((kind("yuv444p", (9, 7), "range_tab"), 9), (kind("yuv444p", (9, 7), "rice"), 8), (kind("yuv420p", (9, 7), "rice"), 9)),
     ),
     World("4:1:1, four slices", ((kind("yuv411p", (32, 16), "rice", slices=4), 8), (kind("yuv411p", (32, 16), "range_tab", slices=4), 8))),
-    World("4:1:0, without parity", ((kind("yuv410p", (17, 9), "range_def", has_parity=False, context=1), 10), (kind("yuv410p", (17, 9), "rice"), 9))),
+    World(
+        "4:1:0, without parity",
+        ((kind("yuv410p", (17, 9), "range_def", has_parity=False, context=1), 10), (kind("yuv410p", (17, 9), "rice"), 9)),
+    ),
     World(
         "4:2:0, damaged packets",
         ((kind("yuv420p", (12, 8), "range_def"), 10), (kind("yuv420p", (12, 8), "rice", has_parity=False), 10)),
@@ -54,7 +57,10 @@ WORLDS = (
         {0: (3, 7), 1: (0, 5, 6)},
     ),
     World("grey, a format of another size", ((kind("gray", (8, 6), "rice"), 8),), Format(8, 4, "grey", "range", 1, 1)),
-    World("4:4:0, odd sides", ((kind("yuv440p", (7, 5), "range_def"), 12), (kind("yuv440p", (7, 5), "range_tab", pattern=PATTERNS[2]), 12))),
+    World(
+        "4:4:0, odd sides",
+        ((kind("yuv440p", (7, 5), "range_def"), 12), (kind("yuv440p", (7, 5), "range_tab", pattern=PATTERNS[2]), 12)),
+    ),
 )  # fmt: skip
 NAMES = ("A", "tape.mov", "Ü3")
 
