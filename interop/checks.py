@@ -22,6 +22,7 @@ from segments import check_segments
 from sessions import check_sessions
 from texts import check_lists
 from tools import HERE
+from whole_texts import check_texts
 
 # The proved program that reads edit lists and scripts as `texts` and `script_texts` say, where it is built.
 TEXT_READER = HERE.parent / "crates" / "texts_check" / "out" / "texts_check"
@@ -38,6 +39,7 @@ PARTS = {
     "frames": check_frames,
     "lists": lambda report, work: check_edit_lists(report),
     "scripts": lambda report, work: check_scripts(report, reader_of("script")),
+    "texts": check_texts,
     "damaged": check_damaged_clips,
     "ends": check_ends,
     "sessions": check_sessions,
