@@ -71,8 +71,9 @@ def frames_of(file: str, folder: Path, stream="0:v:0") -> Frames:
     return Frames(*found, said)
 
 
-# What ffmpeg says of each slice whose aspect ratio is unknown: by RFC 9043 section 4.6 both its numbers are then 0.
-UNKNOWN_RATIO = re.compile(r"\[ffv1 @ \w+\] ignoring invalid SAR: 0/0\n(    Last message repeated \d+ times\n)?")
+# What ffmpeg says of each slice whose aspect ratio is unknown: by RFC 9043 section 4.6 both its numbers are then 0. Of slices that it
+# decodes at once one may tell what another has put in its place, 0/1.
+UNKNOWN_RATIO = re.compile(r"\[ffv1 @ \w+\] ignoring invalid SAR: 0/[01]\n(    Last message repeated \d+ times\n)?")
 
 
 def without_ratios(said: str) -> str:
