@@ -24,7 +24,7 @@ pub struct Playback {
 }
 
 /// The word for a file that wasn't fetched.
-fn store_word(fault: FetchFault) -> &'static str
+pub fn store_word(fault: FetchFault) -> &'static str
     ensures { result.now ≡ store_word fault }
 {
     match fault {

@@ -1,73 +1,45 @@
 //! The top call.
 
-ghost use Rattle.std.specs.Prelude.{IsTrue, ◌≡◌, ◌⊎◌, ◌==◌, ℕ, List, [], ◌∷◌, Some, None, map, option_map, slice_index, string_bytes};
-ghost use Rattle.timeline_app.specs.Lines.{usage_line};
-ghost use Rattle.timeline_app.specs.Run.{script_name, Says, Puts, StopsWith, stop_line, stop_status, status_after};
-ghost use Rattle.timeline_app.specs.Top.{RunsBy, Runs};
+ghost use Rattle.std.specs.Prelude.{◌≡◌, ◌≤◌, [], ◌∷◌, None, length, map, string_bytes};
+ghost use Rattle.tl_limits.specs.Limits.{max_clips};
+ghost use Rattle.script_lang.specs.ScriptSound.{IsScript};
+ghost use Rattle.script_lang.specs.declared.out_line.OutLine.TheVariants as out_line;
+ghost use Rattle.play_head.specs.Playing.{player};
+ghost use Rattle.play_head.specs.PlayingScript.{setting_of};
+ghost use Rattle.timeline_app.specs.Course.{PlaysAll, SaysBy};
+ghost use Rattle.timeline_app.specs.Ending.{said_by, status_unless};
+ghost use Rattle.timeline_app.specs.Head.{head_line, head_status};
+ghost use Rattle.timeline_app.specs.Runs.{EndsEarly, RunsAsked, RunsOpened, Runs};
 
-use crate::job::fetch_job;
-use crate::lines::{clip_fault_line, fault_line, memory_line, store_line, usage_line};
-use crate::play::play;
-use crate::say::{say, say_made};
-use crate::stop::Stop;
+use crate::ending::{final_status, say_endings};
+use crate::head_line::{head_line, head_status};
+use crate::opening::{Opening, open_library};
+use crate::session::HeadStop;
+use crate::words::{Asked, read_words};
+use clip_store::Library;
+use edit_desk::{Alone, Desk};
+use pic_planes::Picture;
+use play_head::{Playback, Stop, finish_exports, play_script, say_line};
+use render_core::Stopper;
+use script_lang::{OutLine, Script};
 use std::alloc::Global;
-use tl_ports::{PutFault, Sink, Store, Vault};
+use time_list::ListLane;
+use tl_model::{Clips, Journal, Media};
+use tl_ports::{OpenGate, PutFault, Sink, Store, Vault};
 
-/// The name of the script, where the words are of the form.
-#[tactic(auto, unfolding(crate::specs::Run::script_name))]
-fn script_name(words: &[String]) -> Option<&str>
-    ensures { option_map (λ name. name.now) result ≡ script_name (map string_bytes words.now) }
-{
-    let [word] = words else {
-        return None;
-    };
-    if is_option(word.as_str()) {
-        None
-    } else {
-        Some(word.as_str())
-    }
+/// How a run ended.
+#[derive(Debug, Drop)]
+pub struct Outcome {
+    /// The exit status: 0, or 2 for wrong words, 3 for a faulty script or clip, 4 where the outside failed, 5 for want of memory,
+    /// 6 where the journal is full, 7 where an export has a fault.
+    pub status: u8,
+    /// What was done, in order. It is empty where no session started.
+    pub journal: Journal,
 }
 
-/// Whether a word begins as an option does.
-fn is_option(word: &str) -> bool
-    ensures { result ≡ (slice_index word.now 0 == 45) }
-{
-    match word.as_bytes() {
-        [] => false,
-        [first, ..] => *first == b'-',
-    }
-}
-
-/// Says why the session doesn't start.
-fn say_stop<O: Sink>(alloc: Global, out: &mut O, stop: &Stop) -> Result<(), PutFault>
-    ensures { Says (IsTrue O.tells) (O.seen out.old).pieces (O.seen out.new).pieces (stop_line stop.now ∷ []) (
-      (O.seen out.old).faults,
-      (O.seen out.new).faults,
-    ) result }
-{
-    match stop {
-        Stop::Unfetched { name, fault } => say_made(out, store_line(alloc, name.as_str(), *fault)),
-        Stop::Faulty { n } => say_made(out, fault_line(alloc, *n)),
-        Stop::FaultyClip { fault } => say_made(out, clip_fault_line(alloc, *fault)),
-        Stop::NoMemory => say(out, memory_line()),
-    }
-}
-
-/// The status of a session that stopped before its start.
-fn stop_status(stop: &Stop) -> u8
-    ensures { result ≡ stop_status stop.now }
-{
-    match stop {
-        Stop::Unfetched { name: _, fault: _ } => 4,
-        Stop::Faulty { n: _ } => 3,
-        Stop::FaultyClip { fault: _ } => 3,
-        Stop::NoMemory => 5,
-    }
-}
-
-/// The status after the last line, which was put so.
-fn status_after(said: Result<(), PutFault>, status: u8) -> u8
-    ensures { result ≡ status_after said status }
+/// The status after a lone line, which was put so.
+fn status_unless(said: Result<(), PutFault>, status: u8) -> u8
+    ensures { result ≡ status_unless said status }
 {
     match said {
         Ok(()) => status,
@@ -76,84 +48,165 @@ fn status_after(said: Result<(), PutFault>, status: u8) -> u8
     }
 }
 
-/// Says how the program is used.
-fn misuse<O: Sink>(out: &mut O) -> u8
-    ensures { StopsWith (IsTrue O.tells) ((O.seen out.old).faults, (O.seen out.new).faults) (O.seen out.old).pieces
-        (O.seen out.new).pieces usage_line 2 result }
+/// An outcome without a session.
+fn without_journal(alloc: Global, status: u8) -> Outcome
+    ensures status { result.status ≡ status }
+    ensures journal { result.journal ≡ [] }
 {
-    let said = say(out, usage_line());
-    status_after(said, 2)
+    Outcome {
+        status,
+        journal: Journal::from_vec(Vec::new(alloc)),
+    }
+}
+
+/// Says how the program is used.
+fn misuse<O: Sink>(alloc: Global, out: &mut O) -> Outcome
+    ensures { EndsEarly O.tells (O.seen out.old) (O.seen out.new) (out_line.Usage, 2) result }
+{
+    let said = say_line(alloc, out, &OutLine::Usage);
+    without_journal(alloc, status_unless(said, 2))
+}
+
+/// Puts the line of what stops a session before its start.
+fn say_head<O: Sink>(alloc: Global, out: &mut O, why: &HeadStop) -> Result<(), PutFault>
+    ensures { SaysBy O.tells (O.seen out.old) (O.seen out.new) (head_line why.now ∷ []) result }
+{
+    match head_line(alloc, why) {
+        Ok(line) => say_line(alloc, out, &line),
+        Err(_) => Err(PutFault::NoMemory),
+    }
 }
 
 /// Ends a session before its start.
-fn end_early<O: Sink>(alloc: Global, out: &mut O, stop: &Stop) -> u8
-    ensures { StopsWith (IsTrue O.tells) ((O.seen out.old).faults, (O.seen out.new).faults) (O.seen out.old).pieces
-        (O.seen out.new).pieces (stop_line stop.now) (stop_status stop.now) result }
+fn end_early<O: Sink>(alloc: Global, out: &mut O, why: &HeadStop) -> Outcome
+    ensures { EndsEarly O.tells (O.seen out.old) (O.seen out.new) (head_line why.now, head_status why.now) result }
 {
-    let said = say_stop(alloc, out, stop);
-    status_after(said, stop_status(stop))
+    let said = say_head(alloc, out, why);
+    without_journal(alloc, status_unless(said, head_status(why)))
 }
 
-/// Fetches the script of this name and plays it.
-fn run_script<T: Store, V: Vault, O: Sink>(
+/// Plays a script's body, stops the session, and carries out the exports that are left.
+pub fn play_all<D: Desk, T: Store, V: Vault, S: Sink, O: Sink>(
     alloc: Global,
-    name: &str,
+    desk: &mut D,
+    stopper: Stopper,
+    script: &Script,
+    clips: &Clips,
     store: &mut T,
     vault: &mut V,
+    screen: &mut S,
     out: &mut O,
-) -> u8
+) -> Playback
+where
+    D::Lib: Media<Frame = Picture>,
+    requires script { IsScript script.now }
+    requires clips { length clips.now ≤ max_clips }
     requires idle { (V.seen vault.old).begun ≡ None }
-    ensures runs { RunsBy (Some name.now) (IsTrue T.tells) ((T.seen store.old).faults, (T.seen store.new).faults)
-        (T.seen store.old).file (IsTrue V.tells) ((V.seen vault.old).faults, (V.seen vault.new).faults) (V.seen vault.old).file
-        (V.seen vault.new).file (IsTrue O.tells) ((O.seen out.old).faults, (O.seen out.new).faults) (O.seen out.old).pieces
-        (O.seen out.new).pieces result }
-    ensures idle { (V.seen vault.new).begun ≡ None }
-    ensures store { (T.seen store.new).file ≡ (T.seen store.old).file }
+    requires main { (D.desk desk.old).fixed.number ≡ 0 }
+    requires fresh { (D.desk desk.old).seen ≡ [] }
+    ensures { PlaysAll
+        (record {
+          setting = setting_of D.Lib.library clips.now script.now.rate (T.seen store.old).file
+              (record { store = T.tells; screen = S.tells; out = O.tells });
+          vault_tells = V.tells;
+          body = script.now.body;
+        })
+        (record { player = player (D.desk desk.old) (T.seen store.old) (S.seen screen.old) (O.seen out.old); vault = V.seen vault.old })
+        (record { player = player (D.desk desk.new) (T.seen store.new) (S.seen screen.new) (O.seen out.new); vault = V.seen vault.new })
+        (result.result, result.is_silenced) }
 {
-    match fetch_job(alloc, store, name) {
-        Ok(job) => play(alloc, &job, vault, out),
-        Err(stop) => end_early(alloc, out, &stop),
+    let playback = play_script(alloc, desk, script, clips, store, screen, out, &OpenGate);
+    desk.known();
+    desk.stop(stopper);
+    finish_exports(alloc, desk, vault, script.rate);
+    playback
+}
+
+/// How the puts to `out` went while a script was played.
+fn said_by(playback: Playback) -> Result<(), PutFault>
+    ensures { result ≡ said_by playback.result playback.is_silenced }
+{
+    if !playback.is_silenced {
+        return Ok(());
+    }
+    match playback.result {
+        Err(Stop::OutMemory) => Err(PutFault::NoMemory),
+        _ => Err(PutFault::Failed),
     }
 }
 
-/// Reads the words of the command line and does what they say.
-fn run<T: Store, V: Vault, O: Sink>(
+/// Plays a session that is begun, to its end.
+fn run_opened<T: Store, V: Vault, S: Sink, O: Sink>(
     alloc: Global,
-    words: &[String],
+    mut desk: Alone<Library, ListLane>,
+    stopper: Stopper,
+    script: &Script,
+    clips: &Clips,
     store: &mut T,
     vault: &mut V,
+    screen: &mut S,
     out: &mut O,
-) -> u8
+) -> Outcome
+    requires script { IsScript script.now }
+    requires clips { length clips.now ≤ max_clips }
     requires idle { (V.seen vault.old).begun ≡ None }
-    ensures runs { RunsBy (script_name (map string_bytes words.now)) (IsTrue T.tells) (
-      (T.seen store.old).faults,
-      (T.seen store.new).faults,
-    ) (T.seen store.old).file (IsTrue V.tells) ((V.seen vault.old).faults, (V.seen vault.new).faults)
-        (V.seen vault.old).file (V.seen vault.new).file (IsTrue O.tells) ((O.seen out.old).faults, (O.seen out.new).faults)
-        (O.seen out.old).pieces (O.seen out.new).pieces result }
-    ensures idle { (V.seen vault.new).begun ≡ None }
-    ensures store { (T.seen store.new).file ≡ (T.seen store.old).file }
+    requires main { desk.fixed.number ≡ 0 }
+    requires fresh { desk.seen ≡ [] }
+    ensures { RunsOpened desk
+        (record {
+          opening = record { script = script.now; clips = clips.now; library = desk.fixed.library };
+          old = record { store = T.seen store.old; vault = V.seen vault.old; screen = S.seen screen.old; out = O.seen out.old };
+          new = record { store = T.seen store.new; vault = V.seen vault.new; screen = S.seen screen.new; out = O.seen out.new };
+          tells = record { store = T.tells; vault = V.tells; screen = S.tells; out = O.tells };
+        })
+        result }
 {
-    match script_name(words) {
-        None => misuse(out),
-        Some(name) => run_script(alloc, name, store, vault, out),
+    let playback = play_all(alloc, &mut desk, stopper, script, clips, store, vault, screen, out);
+    let journal = desk.finish();
+    let said = match said_by(playback) {
+        Ok(()) => say_endings(alloc, out, clips, journal.as_slice()),
+        Err(fault) => Err(fault),
+    };
+    Outcome {
+        status: final_status(said, playback.result, journal.as_slice()),
+        journal,
     }
 }
 
-/// How a run ended.
-#[derive(Clone, Copy, Debug, PartialEq, Eq)]
-pub struct Outcome {
-    /// The exit status: 0, or 2 for wrong words, 3 for a faulty script or clip, 4 where the outside
-    /// failed, 5 for want of memory.
-    pub status: u8,
+/// Begins the session that the words ask for, and plays it.
+fn run_asked<T: Store, V: Vault, S: Sink, O: Sink>(
+    alloc: Global,
+    asked: Asked,
+    store: &mut T,
+    vault: &mut V,
+    screen: &mut S,
+    out: &mut O,
+) -> Outcome
+    requires idle { (V.seen vault.old).begun ≡ None }
+    ensures { RunsAsked asked
+        record { store = T.seen store.old; vault = V.seen vault.old; screen = S.seen screen.old; out = O.seen out.old }
+        record { store = T.seen store.new; vault = V.seen vault.new; screen = S.seen screen.new; out = O.seen out.new }
+        record { store = T.tells; vault = V.tells; screen = S.tells; out = O.tells }
+        result }
+{
+    let opening = match open_library(alloc, store, asked.script) {
+        Ok(opening) => opening,
+        Err(why) => return end_early(alloc, out, &why),
+    };
+    let Opening { script, clips, library } = opening;
+    match Alone::start(alloc, library, asked.cache, asked.journal) {
+        Ok((desk, stopper)) => run_opened(alloc, desk, stopper, &script, &clips, store, vault, screen, out),
+        Err(_) => end_early(alloc, out, &HeadStop::NoMemory),
+    }
 }
 
 /// Does what the words of a command line ask for, alone on one thread, and always returns.
 ///
-/// The words are one, the name of a script, which doesn't begin with `-`. The script and its clip are
-/// fetched from `store`; each line goes to `out` in one `put`, and after one that isn't `Ok` no other
-/// is made; the export goes to `vault`, also where the line of its ask wasn't put. No frame is shown
-/// yet, so `screen` stays as it is.
+/// The words are SCRIPT and up to three options with numbers: how many workers there are, to which it pays no heed, how many results
+/// are kept, and how many entries the journal may have. The script and the files of its clips are fetched from `store` and it is
+/// played: each call's line goes to `out` in one `put`, the rows of each picture that is given to `screen`, and each export that was
+/// asked for to `vault`, after the stop that ends the session. What stops a session has a line, and so has each export's end. After a
+/// put to `out` that isn't `Ok` no other is made to it.
 pub fn run_alone<T: Store, V: Vault, S: Sink, O: Sink>(
     alloc: Global,
     words: &[String],
@@ -162,15 +215,16 @@ pub fn run_alone<T: Store, V: Vault, S: Sink, O: Sink>(
     screen: &mut S,
     out: &mut O,
 ) -> Outcome
-    requires { (V.seen vault.old).begun ≡ None }
+    requires idle { (V.seen vault.old).begun ≡ None }
     ensures { Runs (map string_bytes words.now)
         record { store = T.seen store.old; vault = V.seen vault.old; screen = S.seen screen.old; out = O.seen out.old }
         record { store = T.seen store.new; vault = V.seen vault.new; screen = S.seen screen.new; out = O.seen out.new }
         record { store = T.tells; vault = V.tells; screen = S.tells; out = O.tells }
-        result.status }
+        result }
 {
-    let _ = screen;
-    Outcome {
-        status: run(alloc, words, store, vault, out),
+    match read_words(alloc, words) {
+        Ok(Some(asked)) => run_asked(alloc, asked, store, vault, screen, out),
+        Ok(None) => misuse(alloc, out),
+        Err(_) => end_early(alloc, out, &HeadStop::NoMemory),
     }
 }

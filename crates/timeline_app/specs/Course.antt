@@ -1,0 +1,209 @@
+-- What a session does from its start to its end: the lines of its script, the stop, and the exports.
+use Rattle.std.specs.Prelude.{◌≡◌, ◌⊎◌, ◌<◌, ℕ, ◌+◌, Bool, IsTrue, List, [], ◌∷◌, ◌++◌, length, map, Option, Some, None, Result, Ok, Err}
+use Rattle.std.specs.List.{flat_map}
+use Rattle.std.specs.Option.{option_map}
+use Rattle.tl_model.specs.Media.{Library}
+use Rattle.tl_model.specs.declared.journal.Act.{Act}
+use Rattle.tl_model.specs.declared.journal.Act.TheVariants as act
+use Rattle.tl_model.specs.declared.journal.Entry.{Entry}
+use Rattle.tl_ports.specs.declared.fault.FetchFault.TheVariants as fetching
+use Rattle.tl_ports.specs.declared.fault.PutFault.{PutFault}
+use Rattle.tl_ports.specs.declared.fault.PutFault.TheVariants as putting
+use Rattle.tl_ports.specs.Outside.{Rose, FetchHasCause}
+use Rattle.tl_ports.specs.Seen.{VaultSeen, SinkSeen}
+use Rattle.render_core.specs.declared.export.Stage.TheVariants as stage
+use Rattle.render_core.specs.Calls.{CallOf}
+use Rattle.render_core.specs.Export.{ExportOf}
+use Rattle.render_core.specs.State.{owed}
+use Rattle.render_core.specs.Step.{Silent}
+use Rattle.edit_desk.specs.Desk.{DeskOf, IsDesk, Enters, state_of, heard}
+use Rattle.script_lang.specs.declared.out_line.OutLine.{OutLine}
+use Rattle.script_lang.specs.declared.script.BodyLine.{BodyLine}
+use Rattle.play_head.specs.declared.halt.Halt.{Halt}
+use Rattle.play_head.specs.declared.halt.Halt.TheVariants as halt
+use Rattle.play_head.specs.declared.stop.Stop.{Stop}
+use Rattle.play_head.specs.Carrying.{Carried, Carrier, CarriesAll, Leaves, FinishesAll, carried_calls, carrier, exporter}
+use Rattle.play_head.specs.Playing.{Setting, Player, Played, AreWhole, HasSomeCalls, ReadsList, lines_of, rows_of}
+use Rattle.play_head.specs.PlayingLine.{Output, IsUnrendered, file_wanted, next_need, no_output, output_of, texts}
+use Rattle.play_head.specs.PlayingScript.{PlaysScript, stop_lines, stop_of}
+use Rattle.play_head.specs.Putting.{GotAll, GotFront}
+use Rattle.timeline_app.specs.Ending.{end_lines, final_status}
+
+-- The line that stopped a script: what it did and what it put by then, the acts that are left of it, and why it stopped.
+pub record Halted (F : Type 0) : Type 0 where
+  pub played : Played F
+  pub left : List Act
+  pub output : Output
+  pub why : Halt
+
+-- What a session did: the lines that were played to their end, the one that stopped, the exports that were carried out, and how the
+-- puts to `out` went.
+pub record Course (F : Type 0) : Type 0 where
+  pub played : List (Played F)
+  pub halted : Option (Halted F)
+  pub carried : List Carried
+  pub said : Result Unit PutFault
+
+-- ---- its calls
+
+abbrev pub halted_calls : {F : Type 0} → Option (Halted F) → List (CallOf F)
+halted_calls None = []
+halted_calls (Some h) = h.played.calls
+
+-- The calls of the lines, and then the stop and those of the exports.
+abbrev pub script_calls : {F : Type 0} → Course F → List (CallOf F)
+script_calls c = flat_map (λ p. p.calls) c.played ++ halted_calls c.halted
+
+abbrev pub stop_call : {F : Type 0} → CallOf F
+stop_call = record { pass = 0; act = act.Stop; told = Silent }
+
+abbrev pub course_calls : {F : Type 0} → Course F → List (CallOf F)
+course_calls c = script_calls c ++ stop_call ∷ flat_map (carried_calls 0) c.carried
+
+-- ---- what it puts
+
+abbrev pub halted_lines : {F : Type 0} → Option (Halted F) → List OutLine
+halted_lines None = []
+halted_lines (Some h) = h.output.lines ++ stop_lines h.played.line.call h.why
+
+abbrev pub halted_rows : {F : Type 0} → Option (Halted F) → List (List ℕ)
+halted_rows None = []
+halted_rows (Some h) = h.output.rows
+
+-- The lines of the calls, the stop line, and the end lines.
+abbrev pub course_lines : {M F : Type 0} → Setting M F → Library F → Course F → List OutLine
+course_lines s lib c = flat_map (lines_of lib) c.played ++ halted_lines c.halted ++ end_lines s.clips c.carried
+
+abbrev pub course_rows : {M F : Type 0} → Setting M F → Library F → Course F → List (List ℕ)
+course_rows s lib c = flat_map (rows_of s lib) c.played ++ halted_rows c.halted
+
+-- The lines were put; or some front of them, since a put failed or memory ran out for a line or a put.
+abbrev pub SaysBy : Bool → (old new : SinkSeen) → List OutLine → (said : Result Unit PutFault) → Type 0
+SaysBy tells old new lines (Ok done) = GotAll tells old new (texts lines)
+SaysBy tells old new lines (Err putting.Failed) = GotFront tells old new (texts lines) × Rose old.faults new.faults
+SaysBy tells old new lines (Err putting.NoMemory) = GotFront tells old new (texts lines)
+
+-- The rows were put; or some front of them, since the screen or `out` failed or memory ran out.
+abbrev pub ShowsBy : Bool → (old new : SinkSeen) → List (List ℕ) → Option Halt → Type 0
+ShowsBy tells old new rows None = GotAll tells old new rows
+ShowsBy tells old new rows (Some (halt.Store fault)) = GotAll tells old new rows
+ShowsBy tells old new rows (Some halt.Screen) = GotFront tells old new rows × Rose old.faults new.faults
+ShowsBy tells old new rows (Some halt.Out) = GotFront tells old new rows
+ShowsBy tells old new rows (Some halt.NoMemory) = GotFront tells old new rows
+ShowsBy tells old new rows (Some halt.OutMemory) = GotFront tells old new rows
+ShowsBy tells old new rows (Some (halt.JournalFull len owing)) = GotAll tells old new rows
+
+-- ---- its exports
+
+-- The first has this number, and each next one more.
+abbrev pub AreNumbered : (first : ℕ) → List Carried → Type 0
+AreNumbered first [] = Unit {0}
+AreNumbered first (c ∷ more) = (c.export ≡ first) × AreNumbered (first + 1) more
+
+abbrev pub ended_export : Carried → ExportOf
+ended_export c = record { name = c.name; line = c.line; stage = stage.Ended c.ending }
+
+-- What the file of each holds, from before the first to after the last.
+abbrev pub LeaveAll : {F : Type 0} → Carrier F → (old new : VaultSeen) → List Carried → Type 0
+LeaveAll by old new [] = Unit {0}
+LeaveAll by old new (c ∷ more) = Leaves by old new c c.ending × LeaveAll by old new more
+
+-- ---- the whole
+
+-- What a session plays: the setting of its player, whether its vault tells its files, and the lines of its script.
+pub record Program (M F : Type 0) : Type 0 where
+  pub setting : Setting M F
+  pub vault_tells : Bool
+  pub body : List BodyLine
+
+-- What a session has: what its player has, and what is seen of its vault.
+pub record Session (M K : Type 0) : Type 0 where
+  pub player : Player M K
+  pub vault : VaultSeen
+
+-- The script's lines are those played to their end; or these, the one that stopped, and the rest.
+abbrev pub AreLines : {F : Type 0} → List BodyLine → List (Played F) → Option (Halted F) → Type 0
+AreLines body played None = body ≡ map (λ p. p.line) played
+AreLines body played (Some h) = (rest : List BodyLine) × (body ≡ map (λ p. p.line) played ++ h.played.line ∷ rest)
+
+-- A line that stopped put what its calls ask for; but of a show for which memory ran out, nothing.
+abbrev pub IsOutputOf : {M F : Type 0} → Setting M F → Library F → Halted F → Type 0
+IsOutputOf s lib h = (h.output ≡ output_of s lib h.played)
+    ⊎ (IsUnrendered h.played × (h.why ≡ halt.NoMemory) × (h.output ≡ no_output))
+
+module _ {M K F : Type 0} where
+  -- The calls that a line made that stopped: a front of those of the whole line, of which these acts are left.
+  abbrev pub IsBegun : Setting M F → DeskOf M K → Option (Halted F) → Type 0
+  IsBegun s d None = Unit {0}
+  IsBegun s d (Some h) = HasSomeCalls s d h.played h.played.line.call h.left
+      × ((h.played.calls ≡ []) ⊎ ReadsList s h.played.line.call h.played.list) × IsOutputOf s (s.library d.fixed.library) h
+
+  -- After just these calls the next act was refused: its entries don't fit with those that were there and those owed.
+  pub record IsRefused (s : Setting M F) (d : DeskOf M K) (calls : List (CallOf F)) (left : List Act) (told : ℕ × ℕ) : Type 0 where
+    pub front : List Entry
+    pub rest : List Entry
+    pub seen : d.seen ≡ front ++ rest
+    pub heard : heard s.library (record d { seen = front }) ≡ calls
+    pub len : told.0 ≡ length front
+    pub owing : told.1 ≡ owed (state_of s.library (record d { seen = front }))
+    pub full : d.fixed.limit < told.0 + told.1 + next_need left (state_of s.library (record d { seen = front }))
+
+  -- Why a line stopped after these calls, by what is seen of the store and of the sinks from the session's start to its end. Want of
+  -- memory is free.
+  abbrev pub IsCause : Setting M F → (old new : Player M K) → List (CallOf F) × Halted F → Halt → Type 0
+  IsCause s old new (calls, h) (halt.Store fault) =
+      FetchHasCause s.tells.store old.store new.store (file_wanted h.played.line.call) (Err fault) × (fault ≡ fetching.NoMemory → ⊥)
+  IsCause s old new (calls, h) halt.Screen = Rose old.screen.faults new.screen.faults
+  IsCause s old new (calls, h) halt.Out = Rose old.out.faults new.out.faults
+  IsCause s old new (calls, h) halt.NoMemory = Unit {0}
+  IsCause s old new (calls, h) halt.OutMemory = Unit {0}
+  IsCause s old new (calls, h) (halt.JournalFull len owing) = IsRefused s new.desk calls h.left (len, owing)
+
+  abbrev pub HasCause : Setting M F → (old new : Player M K) → List (CallOf F) → Option (Halted F) → Type 0
+  HasCause s old new calls None = Unit {0}
+  HasCause s old new calls (Some h) = IsCause s old new (calls, h) h.why
+
+  -- A session from its start, where the journal is empty, to its end, by the journal that it then has.
+  pub record RunsCourse (p : Program M F) (old new : Session M K) (c : Course F) (code : ℕ) : Type 0 where
+    -- 1: the journal is legal and within its limit
+    pub known : IsDesk p.setting.library new.player.desk
+    -- 1: each line was played whole, but for one that stopped and those after it
+    pub lines : AreLines p.body c.played c.halted
+    -- 1 and 7: a whole line has all its calls, and one of work its turns
+    pub whole : AreWhole p.setting new.player.desk [] c.played
+    -- 1: the line that stopped has some first of its calls
+    pub begun : IsBegun p.setting new.player.desk c.halted
+    -- 1: the caller's calls in the journal are those of these lines, the stop, and those of the exports
+    pub calls : heard p.setting.library new.player.desk ≡ course_calls c
+    -- 2: `out` got the lines
+    pub says : SaysBy p.setting.tells.out old.player.out new.player.out
+        (course_lines p.setting (p.setting.library new.player.desk.fixed.library) c) c.said
+    -- 3: the screen got the rows
+    pub shows : ShowsBy p.setting.tells.screen old.player.screen new.player.screen
+        (course_rows p.setting (p.setting.library new.player.desk.fixed.library) c) (option_map (λ h. h.why) c.halted)
+    -- 4: the exports were carried out one after another
+    pub carries : CarriesAll (carrier p.setting.library new.player.desk p.setting.rate p.vault_tells) old.vault new.vault c.carried
+    -- 4: and each one's file is there at the end
+    pub files : LeaveAll (carrier p.setting.library new.player.desk p.setting.rate p.vault_tells) old.vault new.vault c.carried
+    -- 5: the exports that were asked for are those carried out, each with its ending
+    pub exports : (state_of p.setting.library new.player.desk).exports ≡ map ended_export c.carried
+    -- 5: in the order of their numbers
+    pub numbers : AreNumbered 1 c.carried
+    -- 6: the status
+    pub status : code ≡ final_status c.said (option_map (λ h. stop_of h.why) c.halted) (map (λ e. e.ending) c.carried)
+    -- 6: and the cause of what stopped the script
+    pub cause : HasCause p.setting old.player new.player (script_calls c) c.halted
+    -- the store's files stay, and no file is left begun
+    pub store : new.player.store.file ≡ old.player.store.file
+    pub idle : new.vault.begun ≡ None
+
+  -- What the session's player and its stop and exports do, one after another, by how playing the script ended.
+  pub record PlaysAll (p : Program M F) (old new : Session M K) (ended : Result Unit Stop × Bool) : Type 0 where
+    pub played : Player M K
+    pub plays : PlaysScript p.setting old.player played p.body ended
+    pub stopped : DeskOf M K
+    pub stops : Enters p.setting.library played.desk stopped act.Stop Silent
+    pub finishes : FinishesAll p.setting.library (carrier p.setting.library stopped p.setting.rate p.vault_tells)
+        (exporter stopped old.vault) (exporter new.player.desk new.vault)
+    pub stays : new.player ≡ record played { desk = new.player.desk }
+    pub idle : new.vault.begun ≡ None
