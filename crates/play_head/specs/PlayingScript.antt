@@ -77,11 +77,12 @@ setting_of library clips rate files tells =
     record { library = library; rows = image_rows; clips = clips; rate = rate; files = files; tells = tells }
 
 module _ {M K : Type 0} where
-  -- Nothing but `out` changes.
+  -- Nothing but `out` changes, and its count of faults doesn't fall.
   pub record OnlyPuts (old new : Player M K) : Type 0 where
     pub desk : new.desk ≡ old.desk
     pub store : new.store ≡ old.store
     pub screen : new.screen ≡ old.screen
+    pub later : old.out.faults ≤ new.out.faults
 
 module _ {M K F : Type 0} where
   -- Lines were played to their end, one after another.
