@@ -3,7 +3,7 @@ use Rattle.std.proofs.Common.{◌≡◌, ℕ, ◌≤◌, Bool, true, false, List
 use Rattle.std.proofs.lemmas.List.{append-nil, map-append}
 use Rattle.tl_ports.specs.declared.fault.PutFault.{PutFault}
 use Rattle.tl_ports.specs.declared.fault.PutFault.TheVariants as putting
-use Rattle.tl_ports.specs.Outside.{Rose}
+use Rattle.tl_ports.specs.Outside.{Rose, PutHasCause}
 use Rattle.tl_ports.specs.Seen.{SinkSeen}
 use Rattle.script_lang.specs.declared.out_line.OutLine.{OutLine}
 use Rattle.script_lang.specs.declared.script.Call.{Call}
@@ -12,9 +12,9 @@ use Rattle.play_head.specs.declared.halt.Halt.{Halt}
 use Rattle.play_head.specs.declared.halt.Halt.TheVariants as halt
 use Rattle.play_head.specs.declared.stop.Stop.{Stop}
 use Rattle.play_head.specs.PlayingLine.{texts}
-use Rattle.play_head.specs.Putting.{IsFront, GotAll, GotFront}
+use Rattle.play_head.specs.Putting.{IsFront, GotAll, GotFront, Gets}
 use Rattle.play_head.specs.PlayingScript.{SaysStop, is_silent, stop_lines, stop_of}
-use Rattle.play_head.proofs.Pieces.{all_then, front_more}
+use Rattle.play_head.proofs.Pieces.{all_then, front_more, front_nothing}
 use Rattle.timeline_app.specs.Course.{SaysBy}
 use Rattle.timeline_app.specs.Ending.{said_by}
 
@@ -106,3 +106,18 @@ module _ (tells : Bool) where
   says_stop mid halted new lines call why what true all some rose le (inr (k, inr h)) =
       let front = front_stop mid halted new lines call why (is_silent why) refl all some k in
       subst (λ (w : Stop). SaysBy tells mid new (lines ++ stop_lines call why) (said_by (Err w) true)) (sym h) front
+
+  -- ---- a lone line
+
+  said_texts : (old new : SinkSeen) (line : OutLine) (result : Result Unit PutFault) → Gets tells old new (line_text line ∷ []) result → PutHasCause old.faults new.faults result → SaysBy tells old new (line ∷ []) result
+  said_texts old new line (Ok done) h cause = h
+  said_texts old new line (Err putting.Failed) h cause = (h, cause)
+  said_texts old new line (Err putting.NoMemory) h cause = h
+
+  pub said_one : (old new : SinkSeen) (line asked : OutLine) (result : Result Unit PutFault) → line ≡ asked → Gets tells old new (line_text line ∷ []) result → PutHasCause old.faults new.faults result → SaysBy tells old new (asked ∷ []) result
+  said_one old new line asked result e h cause =
+      subst (λ (l : OutLine). SaysBy tells old new (l ∷ []) result) e (said_texts old new line result h cause)
+
+  -- memory ran out for it
+  pub said_none : (sink : SinkSeen) (lines : List OutLine) → SaysBy tells sink sink lines (Err putting.NoMemory)
+  said_none sink lines = front_nothing tells sink (texts lines)

@@ -23,7 +23,7 @@ use Rattle.play_head.specs.PlayingLine.{texts}
 use Rattle.play_head.specs.Putting.{GotAll}
 use Rattle.play_head.proofs.Desks.{number-hears}
 use Rattle.play_head.proofs.Growing.{are_later}
-use Rattle.timeline_app.specs.Course.{Course, Halted, Program, Session, HasCause, IsBegun, IsOutputOf, LeaveAll, AreNumbered, RunsCourse, SaysBy, ShowsBy, course_rows, ended_export, halted_lines, script_calls, stop_call}
+use Rattle.timeline_app.specs.Course.{Course, Halted, Program, Session, HasCause, IsBegun, IsOutputOf, LeaveAll, AreNumbered, RunsCourse, SaysBy, SaysRest, ShowsBy, course_rows, ended_export, course_calls, halted_lines, script_calls, stop_call}
 use Rattle.timeline_app.specs.Ending.{end_lines, final_status}
 use Rattle.timeline_app.proofs.Courses.{ScriptPart, calls_all, end_hears, heard_nothing, part_whole}
 use Rattle.timeline_app.proofs.Speaking.{says_silent, says_then}
@@ -62,12 +62,8 @@ module _ {M K F : Type 0} (s : Setting M F) (d new : DeskOf M K) where
     subst (λ (f : FixedOf M K). IsOutputOf s (s.library f.library) x) (sym e) h.2,
   )
 
--- What is put after a script's lines: nothing more after a put that wasn't `Ok`.
-abbrev pub SaysRest : Bool → (mid new : SinkSeen) → List OutLine → (first said : Result Unit PutFault) → Type 0
-SaysRest tells mid new lines (Ok done) said = SaysBy tells mid new lines said
-SaysRest tells mid new lines (Err fault) said = (said ≡ Err fault) × (new ≡ mid)
-
-says_rest : (tells : Bool) (old mid new : SinkSeen) (first more : List OutLine) (one said : Result Unit PutFault) → old.faults ≤ mid.faults → SaysBy tells old mid first one → SaysRest tells mid new more one said → SaysBy tells old new (first ++ more) said
+-- what is put after a script's lines
+says_rest : (tells : Bool) (old mid new : SinkSeen) (first more : List OutLine) (one said : Result Unit PutFault) → old.faults ≤ mid.faults → SaysBy tells old mid first one → SaysRest tells mid new more (one, said) → SaysBy tells old new (first ++ more) said
 says_rest tells old mid new first more (Ok done) said le h k = says_then tells old mid new first more said h le k
 says_rest tells old mid new first more (Err fault) said le h k =
     subst (λ (x : SinkSeen). SaysBy tells old x (first ++ more) said) (sym k.1)
@@ -95,24 +91,42 @@ module _ {M K F : Type 0} where
     pub stops : Enters s.library played.desk stopped act.Stop Silent
     pub finishes : FinishesExports s.library stopped desk carried
 
+-- ---- the script's part at the end
+
+module _ {M K F : Type 0} (s : Setting M F) (old played : Player M K) (desk : DeskOf M K) (body : List BodyLine) (c : Course F) (one : Result Unit PutFault) (script : Scripted s old played body c one) where
+  -- what the caller hears after the script
+  pub ends_hear : old.desk.fixed.number ≡ 0 → Closed s played desk c.carried → Hears s.library played.desk desk (stop_call ∷ flat_map (carried_calls 0) c.carried)
+  ends_hear zero closed =
+      let number : played.desk.fixed.number ≡ 0 = number-hears s.library old.desk played.desk (script_calls c) script.part.hears ∙ zero in
+      end_hears s played.desk closed.stopped desk c.carried number closed.stops closed.finishes
+
+  pub whole_then : old.desk.seen ≡ [] → Hears s.library played.desk desk (stop_call ∷ flat_map (carried_calls 0) c.carried) → AreWhole s desk [] c.played
+  whole_then empty ends =
+      subst (λ (calls : List (CallOf F)). AreWhole s desk calls c.played) (heard_nothing s old.desk empty)
+      (are_later s played.desk desk (heard s.library old.desk) (stop_call ∷ flat_map (carried_calls 0) c.carried) c.played ends script.part.whole)
+
+  pub begun_then : Hears s.library played.desk desk (stop_call ∷ flat_map (carried_calls 0) c.carried) → IsBegun s desk c.halted
+  begun_then ends = begun_later s played.desk desk c.halted ends.fixed script.part.begun
+
+  pub calls_then : old.desk.seen ≡ [] → Hears s.library played.desk desk (stop_call ∷ flat_map (carried_calls 0) c.carried) → heard s.library desk ≡ course_calls c
+  calls_then empty ends = calls_all s old.desk played.desk desk c empty script.part.hears ends
+
 module _ {M K F : Type 0} (p : Program M F) (old : Session M K) (played : Player M K) (desk : DeskOf M K) (vault : VaultSeen) (out : SinkSeen) (c : Course F) (one : Result Unit PutFault) where
-  pub runs_all : old.player.desk.fixed.number ≡ 0 → old.player.desk.seen ≡ [] → Scripted p.setting old.player played p.body c one → Closed p.setting played desk c.carried → IsDesk p.setting.library desk → SaysRest p.setting.tells.out played.out out (end_lines p.setting.clips c.carried) one c.said → played.out.faults ≤ out.faults → CarriesAll (carrier p.setting.library desk p.setting.rate p.vault_tells) old.vault vault c.carried → Exported p old (record { player = record played { desk = desk; out = out }; vault = vault }) c.carried → vault.begun ≡ None → RunsCourse p old (record { player = record played { desk = desk; out = out }; vault = vault }) c (final_status c.said (option_map (λ (h : Halted F). stop_of h.why) c.halted) (map (λ (e : Carried). e.ending) c.carried))
+  pub runs_all : old.player.desk.fixed.number ≡ 0 → old.player.desk.seen ≡ [] → Scripted p.setting old.player played p.body c one → Closed p.setting played desk c.carried → IsDesk p.setting.library desk → SaysRest p.setting.tells.out played.out out (end_lines p.setting.clips c.carried) (one, c.said) → played.out.faults ≤ out.faults → CarriesAll (carrier p.setting.library desk p.setting.rate p.vault_tells) old.vault vault c.carried → Exported p old (record { player = record played { desk = desk; out = out }; vault = vault }) c.carried → vault.begun ≡ None → RunsCourse p old (record { player = record played { desk = desk; out = out }; vault = vault }) c (final_status c.said (option_map (λ (h : Halted F). stop_of h.why) c.halted) (map (λ (e : Carried). e.ending) c.carried))
   runs_all zero empty script closed known rest later carries exported idle =
       let s = p.setting in
       let lib = s.library in
       let started = old.player.desk in
-      let number : played.desk.fixed.number ≡ 0 = number-hears lib started played.desk (script_calls c) script.part.hears ∙ zero in
-      let ends = end_hears s played.desk closed.stopped desk c.carried number closed.stops closed.finishes in
+      let ends = ends_hear s old.player played desk p.body c one script zero closed in
       let fixed : desk.fixed ≡ started.fixed = ends.fixed ∙ script.part.hears.fixed in
-      let whole = are_later s played.desk desk (heard lib started) (stop_call ∷ flat_map (carried_calls 0) c.carried) c.played ends script.part.whole in
       let lines : Library F → List OutLine = λ l. flat_map (lines_of l) c.played ++ halted_lines c.halted in
       let said = says_rest s.tells.out old.player.out played.out out (lines (lib started.fixed.library)) (end_lines s.clips c.carried) one c.said script.le script.says rest in
       record {
         known = known;
         lines = script.part.lines;
-        whole = subst (λ (calls : List (CallOf F)). AreWhole s desk calls c.played) (heard_nothing s started empty) whole;
-        begun = begun_later s played.desk desk c.halted ends.fixed script.part.begun;
-        calls = calls_all s started played.desk desk c empty script.part.hears ends;
+        whole = whole_then s old.player played desk p.body c one script empty ends;
+        begun = begun_then s old.player played desk p.body c one script ends;
+        calls = calls_then s old.player played desk p.body c one script empty ends;
         says = subst (λ (f : FixedOf M K). SaysBy s.tells.out old.player.out out (flat_map (lines_of (lib f.library)) c.played ++ halted_lines c.halted ++ end_lines s.clips c.carried) c.said) (sym fixed)
             said;
         shows = subst (λ (f : FixedOf M K). ShowsBy s.tells.screen old.player.screen played.screen (course_rows s (lib f.library) c) (option_map (λ (h : Halted F). h.why) c.halted)) (sym fixed) script.shows;

@@ -83,6 +83,11 @@ SaysBy tells old new lines (Ok done) = GotAll tells old new (texts lines)
 SaysBy tells old new lines (Err putting.Failed) = GotFront tells old new (texts lines) × Rose old.faults new.faults
 SaysBy tells old new lines (Err putting.NoMemory) = GotFront tells old new (texts lines)
 
+-- What is put after lines that went as the first says, and how that went: nothing more after a put that wasn't `Ok`.
+abbrev pub SaysRest : Bool → (old new : SinkSeen) → List OutLine → Result Unit PutFault × Result Unit PutFault → Type 0
+SaysRest tells old new lines (Ok done, said) = SaysBy tells old new lines said
+SaysRest tells old new lines (Err fault, said) = (said ≡ Err fault) × (new ≡ old)
+
 -- The rows were put; or some front of them, since the screen or `out` failed or memory ran out.
 abbrev pub ShowsBy : Bool → (old new : SinkSeen) → List (List ℕ) → Option Halt → Type 0
 ShowsBy tells old new rows None = GotAll tells old new rows

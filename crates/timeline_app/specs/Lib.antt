@@ -1,5 +1,2 @@
-pub mod Script
-pub mod Reading
-pub mod Lines
-pub mod Run
-pub mod Top
+pub mod Ending
+pub mod Course

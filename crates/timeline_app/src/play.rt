@@ -1,102 +1,132 @@
-//! Playing a script of the form: the insert, and the export or its refusal.
+//! A session that is begun, played to its end: its script, the stop, the exports that are left, and their lines.
 
-ghost use Rattle.std.specs.Prelude.{IsTrue, ◌≡◌, ◌⊎◌, ◌≤◌, None};
-ghost use Rattle.timeline_app.specs.Lines.{ok_line};
-ghost use Rattle.timeline_app.specs.Reading.{view};
-ghost use Rattle.timeline_app.specs.Run.{IsUntouched, PutsFirst, IsInside, IsSound, Plays, PlaysExport, PlaysRefusal, asked_lines, export_lines, fault_status, ending_status};
+ghost use Rattle.std.specs.Prelude.{◌≡◌, ◌≤◌, [], None, length};
+ghost use Rattle.std.specs.List.{flat_map};
+ghost use Rattle.tl_limits.specs.Limits.{max_clips};
+ghost use Rattle.pic_planes.specs.Picture.{Image};
+ghost use Rattle.script_lang.specs.ScriptSound.{IsScript};
+ghost use Rattle.play_head.specs.Playing.{player};
+ghost use Rattle.play_head.specs.PlayingScript.{setting_of};
+ghost use Rattle.timeline_app.specs.Course.{Course, PlaysAll, RunsCourse, SaysRest};
+ghost use Rattle.timeline_app.specs.Ending.{entry_lines, said_by};
 
-use crate::export::{Ending, export};
-use crate::job::Job;
-use crate::lines::{asked_line, ok_line};
-use crate::say::{say, say_ending, say_made, say_refused};
+use crate::ending::{final_status, say_endings};
+use crate::outcome::Outcome;
+use edit_desk::{Alone, Desk};
+use pic_planes::Picture;
+use play_head::{Playback, Stop, finish_exports, play_script};
+use render_core::Stopper;
+use script_lang::Script;
 use std::alloc::Global;
-use tl_ports::{PutFault, Sink, Vault};
+use time_list::ListLane;
+use tl_model::{Clips, Entry, Media};
+use tl_ports::{OpenGate, PutFault, Sink, Store, Vault};
 
-/// The status of a session that a line stopped.
-fn fault_status(fault: PutFault) -> u8
-    ensures { result ≡ fault_status fault }
-{
-    match fault {
-        PutFault::Failed => 4,
-        PutFault::NoMemory => 5,
-    }
-}
-
-/// The status of a session whose lines were all put, by its export.
-fn ending_status(ending: Ending) -> u8
-    ensures { result ≡ ending_status ending }
-{
-    match ending {
-        Ending::Done { frames: _ } => 0,
-        Ending::Sink => 4,
-        Ending::NoMemory => 5,
-    }
-}
-
-/// Asks for the export and carries it out. It is carried out also where the line of the ask isn't put.
-fn play_asked<V: Vault, O: Sink>(alloc: Global, job: &Job, vault: &mut V, out: &mut O) -> u8
+/// Plays a script's body, stops the session, and carries out the exports that are left.
+fn play_all<D: Desk, T: Store, V: Vault, S: Sink, O: Sink>(
+    alloc: Global,
+    desk: &mut D,
+    stopper: Stopper,
+    script: &Script,
+    clips: &Clips,
+    store: &mut T,
+    vault: &mut V,
+    screen: &mut S,
+    out: &mut O,
+) -> Playback
+where
+    D::Lib: Media<Frame = Picture>,
+    requires script { IsScript script.now }
+    requires clips { length clips.now ≤ max_clips }
     requires idle { (V.seen vault.old).begun ≡ None }
-    requires sound { IsSound job.now.bytes.items job.now.index }
-    requires inside { IsInside (view job.now.script) job.now.index }
-    ensures plays { PlaysExport (IsTrue V.tells) ((V.seen vault.old).faults, (V.seen vault.new).faults) (V.seen vault.old).file
-        (V.seen vault.new).file (IsTrue O.tells) ((O.seen out.old).faults, (O.seen out.new).faults) (O.seen out.old).pieces
-        (O.seen out.new).pieces asked_lines (view job.now.script) job.now.bytes.items job.now.index result }
-    ensures idle { (V.seen vault.new).begun ≡ None }
+    requires main { (D.desk desk.old).fixed.number ≡ 0 }
+    requires fresh { (D.desk desk.old).seen ≡ [] }
+    ensures { PlaysAll
+        (record {
+          setting = setting_of D.Lib.library clips.now script.now.rate (T.seen store.old).file
+              (record { store = T.tells; screen = S.tells; out = O.tells });
+          vault_tells = V.tells;
+          body = script.now.body;
+        })
+        (record { player = player (D.desk desk.old) (T.seen store.old) (S.seen screen.old) (O.seen out.old); vault = V.seen vault.old })
+        (record { player = player (D.desk desk.new) (T.seen store.new) (S.seen screen.new) (O.seen out.new); vault = V.seen vault.new })
+        (result.result, result.is_silenced) }
+{
+    let playback = play_script(alloc, desk, script, clips, store, screen, out, &OpenGate);
+    desk.known();
+    desk.stop(stopper);
+    finish_exports(alloc, desk, vault, script.rate);
+    playback
+}
+
+/// How the puts to `out` went while a script was played.
+fn said_by(playback: Playback) -> Result<(), PutFault>
+    ensures { result ≡ said_by playback.result playback.is_silenced }
+{
+    if !playback.is_silenced {
+        return Ok(());
+    }
+    match playback.result {
+        Err(Stop::OutMemory) => Err(PutFault::NoMemory),
+        _ => Err(PutFault::Failed),
+    }
+}
+
+/// Puts the end lines, unless a put before them wasn't `Ok`.
+fn say_rest<O: Sink>(
+    alloc: Global,
+    out: &mut O,
+    clips: &Clips,
+    journal: &[Entry],
+    said: Result<(), PutFault>,
+) -> Result<(), PutFault>
+    ensures says { SaysRest O.tells (O.seen out.old) (O.seen out.new) (flat_map (entry_lines clips.now) journal.now) (said, result) }
     ensures later { (O.seen out.old).faults ≤ (O.seen out.new).faults }
 {
-    let asked = say(out, asked_line());
-    let ending = export(alloc, job, vault);
-    match asked {
-        Err(fault) => fault_status(fault),
-        Ok(()) => match say_ending(alloc, out, ending) {
-            Err(fault) => fault_status(fault),
-            Ok(()) => ending_status(ending),
-        },
+    match said {
+        Ok(()) => say_endings(alloc, out, clips, journal),
+        Err(fault) => Err(fault),
     }
 }
 
-/// Inserts the clip's first frames, and exports them.
-fn play_export<V: Vault, O: Sink>(alloc: Global, job: &Job, vault: &mut V, out: &mut O) -> u8
+/// Plays a session that is begun, to its end.
+pub fn run_desk<M: Media<Frame = Picture> + Drop, T: Store, V: Vault, S: Sink, O: Sink>(
+    alloc: Global,
+    mut desk: Alone<M, ListLane>,
+    stopper: Stopper,
+    script: &Script,
+    clips: &Clips,
+    store: &mut T,
+    vault: &mut V,
+    screen: &mut S,
+    out: &mut O,
+) -> Outcome
+    requires script { IsScript script.now }
+    requires clips { length clips.now ≤ max_clips }
     requires idle { (V.seen vault.old).begun ≡ None }
-    requires sound { IsSound job.now.bytes.items job.now.index }
-    requires inside { IsInside (view job.now.script) job.now.index }
-    ensures plays { PlaysExport (IsTrue V.tells) ((V.seen vault.old).faults, (V.seen vault.new).faults) (V.seen vault.old).file
-        (V.seen vault.new).file (IsTrue O.tells) ((O.seen out.old).faults, (O.seen out.new).faults) (O.seen out.old).pieces
-        (O.seen out.new).pieces (export_lines job.now.script.len) (view job.now.script) job.now.bytes.items job.now.index result }
-    ensures asked { IsUntouched (IsTrue V.tells) ((V.seen vault.old).faults, (V.seen vault.new).faults) (V.seen vault.old).file
-        (V.seen vault.new).file
-        ⊎ PutsFirst (IsTrue O.tells) (O.seen out.old).pieces (O.seen out.new).pieces (ok_line job.now.script.len) }
-    ensures idle { (V.seen vault.new).begun ≡ None }
+    requires main { desk.fixed.number ≡ 0 }
+    requires fresh { desk.seen ≡ [] }
+    ensures { (course : Course Image) × RunsCourse
+        (record {
+          setting = setting_of M.library clips.now script.now.rate (T.seen store.old).file
+              (record { store = T.tells; screen = S.tells; out = O.tells });
+          vault_tells = V.tells;
+          body = script.now.body;
+        })
+        (record { player = player desk (T.seen store.old) (S.seen screen.old) (O.seen out.old); vault = V.seen vault.old })
+        (record {
+          player = player (record desk { seen = result.journal }) (T.seen store.new) (S.seen screen.new) (O.seen out.new);
+          vault = V.seen vault.new;
+        })
+        course result.status }
 {
-    match say_made(out, ok_line(alloc, job.script.len)) {
-        Err(fault) => fault_status(fault),
-        Ok(()) => play_asked(alloc, job, vault, out),
-    }
-}
-
-/// Refuses an insert past the clip's end, and the export of the empty timeline.
-fn play_refusal<O: Sink>(out: &mut O) -> u8
-    ensures { PlaysRefusal (IsTrue O.tells) ((O.seen out.old).faults, (O.seen out.new).faults) (O.seen out.old).pieces
-        (O.seen out.new).pieces result }
-{
-    match say_refused(out) {
-        Ok(()) => 0,
-        Err(fault) => fault_status(fault),
-    }
-}
-
-/// Plays the script, and answers the status.
-pub fn play<V: Vault, O: Sink>(alloc: Global, job: &Job, vault: &mut V, out: &mut O) -> u8
-    requires idle { (V.seen vault.old).begun ≡ None }
-    requires sound { IsSound job.now.bytes.items job.now.index }
-    ensures plays { Plays (IsTrue V.tells) ((V.seen vault.old).faults, (V.seen vault.new).faults) (V.seen vault.old).file
-        (V.seen vault.new).file (IsTrue O.tells) ((O.seen out.old).faults, (O.seen out.new).faults) (O.seen out.old).pieces
-        (O.seen out.new).pieces (view job.now.script) job.now.bytes.items job.now.index result }
-    ensures idle { (V.seen vault.new).begun ≡ None }
-{
-    if job.script.len as usize <= job.index.packets.as_slice().len() {
-        play_export(alloc, job, vault, out)
-    } else {
-        play_refusal(out)
+    let playback = play_all(
+        alloc, &mut desk, stopper, script, clips, store, vault, screen, out,
+    );
+    let journal = desk.finish();
+    let said = say_rest(alloc, out, clips, journal.as_slice(), said_by(playback));
+    Outcome {
+        status: final_status(said, playback.result, journal.as_slice()),
+        journal,
     }
 }
