@@ -4,26 +4,26 @@ use Rattle.std.specs.List.{flat_map}
 use Rattle.std.specs.Option.{option_map}
 use Rattle.tl_model.specs.Media.{Library}
 use Rattle.tl_model.specs.declared.fault.Ending.{Ending}
+use Rattle.tl_model.specs.declared.journal.Entry.{Entry}
 use Rattle.tl_ports.specs.declared.fault.PutFault.{PutFault}
 use Rattle.tl_ports.specs.Seen.{SinkSeen}
 use Rattle.render_core.specs.Calls.{own}
-use Rattle.edit_desk.specs.Desk.{FixedOf, DeskOf, IsDesk, Hears}
+use Rattle.edit_desk.specs.Desk.{FixedOf, DeskOf, IsDesk}
 use Rattle.script_lang.specs.declared.out_line.OutLine.{OutLine}
 use Rattle.script_lang.specs.ScriptSound.{AreDistinct}
-use Rattle.script_lang.specs.ScriptText.{export_files}
 use Rattle.play_head.specs.declared.stop.Stop.{Stop}
-use Rattle.play_head.specs.Carrying.{Carried, CarriesAll, FinishesExports, carried_calls, carrier}
-use Rattle.play_head.specs.Playing.{Player, AreWhole}
+use Rattle.play_head.specs.Carrying.{Carried, CarriesAll, FinishesExports, carrier}
+use Rattle.play_head.specs.Playing.{Player}
 use Rattle.play_head.specs.PlayingScript.{stop_of}
-use Rattle.play_head.proofs.Desks.{number-hears}
-use Rattle.timeline_app.specs.Course.{Course, Halted, Program, Session, IsBegun, PlaysAll, RunsCourse, SaysRest, stop_call}
+use Rattle.timeline_app.specs.Course.{Course, Halted, Program, Session, PlaysAll, RunsCourse, SaysRest}
 use Rattle.timeline_app.specs.Ending.{end_lines, entry_endings, entry_lines, final_status, said_by, stop_in}
 use Rattle.timeline_app.proofs.Endings.{journal_endings, journal_lines}
-use Rattle.timeline_app.proofs.Exported.{exported_all}
+use Rattle.timeline_app.proofs.Exported.{alone_by, exported_by}
 use Rattle.timeline_app.proofs.Exports.{IsAlone}
-use Rattle.timeline_app.proofs.Kept.{script_none}
+use Rattle.timeline_app.proofs.Going.{script_goes_on}
+use Rattle.timeline_app.proofs.Named.{files_of}
 use Rattle.timeline_app.proofs.Sessions.{HasCourse, IsSaid, script_course}
-use Rattle.timeline_app.proofs.Whole.{Closed, Exported, Scripted, begun_then, calls_then, ends_hear, runs_all, whole_then}
+use Rattle.timeline_app.proofs.Whole.{Closed, runs_all}
 
 -- no put follows one that wasn't `Ok`
 said_still : (tells : Bool) (mid new : SinkSeen) (lines : List OutLine) (one said : Result Unit PutFault) → SaysRest tells mid new lines (one, said) → IsSaid one said
@@ -35,7 +35,7 @@ module _ {M K F : Type 0} (p : Program M F) (old mid : Session M K) (r : Result 
   pub record HasFinished : Type 0 where
     pub number : old.player.desk.fixed.number ≡ 0
     pub fresh : old.player.desk.seen ≡ []
-    pub distinct : AreDistinct (flat_map (λ line. export_files line.call) p.body)
+    pub distinct : AreDistinct (files_of p.body)
     pub plays : PlaysAll p old mid (r, silenced)
     pub known : IsDesk p.setting.library mid.player.desk
     pub own : own 0 mid.player.desk.seen ≡ mid.player.desk.seen
@@ -53,25 +53,8 @@ module _ {M K F : Type 0} (p : Program M F) (old mid : Session M K) (r : Result 
       finishes = subst (FinishesExports p.setting.library a.plays.stopped mid.player.desk) (sym h.carries) a.plays.finishes.1;
     }
 
-    hear_by : Hears p.setting.library a.plays.played.desk mid.player.desk (stop_call ∷ flat_map (carried_calls 0) h.course.carried)
-    hear_by = ends_hear p.setting old.player a.plays.played mid.player.desk p.body h.course (said_by r silenced) h.scripted a.number closed_by
-
-    whole_by : AreWhole p.setting mid.player.desk [] h.course.played
-    whole_by = whole_then p.setting old.player a.plays.played mid.player.desk p.body h.course (said_by r silenced) h.scripted a.fresh hear_by
-
-    begun_by : IsBegun p.setting mid.player.desk h.course.halted
-    begun_by = begun_then p.setting old.player a.plays.played mid.player.desk p.body h.course (said_by r silenced) h.scripted hear_by
-
-    alone_by : IsAlone p.setting.library mid.player.desk h.course
-    alone_by = record {
-      known = a.known;
-      number = number-hears p.setting.library a.plays.played.desk mid.player.desk _ hear_by
-          ∙ number-hears p.setting.library old.player.desk a.plays.played.desk _ h.scripted.part.hears ∙ a.number;
-      own = a.own;
-      heard = calls_then p.setting old.player a.plays.played mid.player.desk p.body h.course (said_by r silenced) h.scripted a.fresh hear_by;
-      script = script_none p.setting mid.player.desk [] h.course whole_by begun_by;
-      done = closed_by.finishes.done;
-    }
+    alone_there : IsAlone p.setting.library mid.player.desk h.course
+    alone_there = alone_by p old a.plays.played mid.player.desk h.course (said_by r silenced) a.number a.fresh h.scripted closed_by a.known a.own
 
     carries_by : CarriesAll (carrier p.setting.library mid.player.desk p.setting.rate p.vault_tells) old.vault mid.vault h.course.carried
     carries_by =
@@ -84,22 +67,22 @@ module _ {M K F : Type 0} (p : Program M F) (old mid : Session M K) (r : Result 
         subst (λ (w : Result Unit PutFault). SaysRest p.setting.tells.out a.plays.played.out out (end_lines p.setting.clips h.course.carried) (said_by r silenced, w)) (sym h.says)
         (subst (λ (k : SinkSeen). SaysRest p.setting.tells.out k out (end_lines p.setting.clips h.course.carried) (said_by r silenced, said)) (ap (λ (x : Player M K). x.out) a.plays.stays)
         (subst (λ (ls : List OutLine). SaysRest p.setting.tells.out mid.player.out out ls (said_by r silenced, said))
-        (journal_lines p.setting.library p.setting.clips mid.player.desk h.course alone_by) says.lines))
+        (journal_lines p.setting.library p.setting.clips mid.player.desk h.course alone_there) says.lines))
 
     runs_by : (out : SinkSeen) → SaysEnds out said → RunsCourse p old (record { player = record a.plays.played { desk = mid.player.desk; out = out }; vault = mid.vault }) h.course
         (final_status h.course.said (option_map (λ (x : Halted F). stop_of x.why) h.course.halted) (map (λ (e : Carried). e.ending) h.course.carried))
     runs_by out says =
-        let new : Session M K = record { player = record a.plays.played { desk = mid.player.desk; out = out }; vault = mid.vault } in
         runs_all p old a.plays.played mid.player.desk mid.vault out h.course (said_by r silenced) a.number a.fresh h.scripted closed_by a.known (rest_by out says)
         (subst (λ (k : SinkSeen). k.faults ≤ out.faults) (ap (λ (x : Player M K). x.out) a.plays.stays) says.later) carries_by
-        (exported_all p old new h.course alone_by a.distinct h.scripted.part.lines whole_by begun_by carries_by) a.plays.idle
+        (exported_by p old a.plays.played mid.player.desk h.course (said_by r silenced) mid.vault out a.number a.fresh h.scripted closed_by a.known a.own a.distinct carries_by)
+        (λ front rest. script_goes_on p.setting.library mid.player.desk h.course front rest alone_there) a.plays.idle
 
     status_by : (out : SinkSeen) → SaysEnds out said → final_status h.course.said (option_map (λ (x : Halted F). stop_of x.why) h.course.halted) (map (λ (e : Carried). e.ending) h.course.carried)
         ≡ final_status said (stop_in r) (flat_map entry_endings mid.player.desk.seen)
     status_by out says =
         ap (λ (w : Result Unit PutFault). final_status w (option_map (λ (x : Halted F). stop_of x.why) h.course.halted) (map (λ (e : Carried). e.ending) h.course.carried)) h.says
         ∙ h.status (map (λ (e : Carried). e.ending) h.course.carried) (said_still p.setting.tells.out mid.player.out out (flat_map (entry_lines p.setting.clips) mid.player.desk.seen) (said_by r silenced) said says.lines)
-        ∙ ap (λ (es : List Ending). final_status said (stop_in r) es) (sym (journal_endings p.setting.library mid.player.desk h.course alone_by))
+        ∙ ap (λ (es : List Ending). final_status said (stop_in r) es) (sym (journal_endings p.setting.library mid.player.desk h.course alone_there))
 
     run_there : (out : SinkSeen) → SaysEnds out said → RunsCourse p old (record { player = record mid.player { out = out }; vault = mid.vault }) h.course
         (final_status said (stop_in r) (flat_map entry_endings mid.player.desk.seen))
@@ -108,9 +91,31 @@ module _ {M K F : Type 0} (p : Program M F) (old mid : Session M K) (r : Result 
         (sym (ap (λ (x : Player M K). record x { out = out }) a.plays.stays))
         (subst (RunsCourse p old (record { player = record a.plays.played { desk = mid.player.desk; out = out }; vault = mid.vault }) h.course) (status_by out says) (runs_by out says))
 
-  -- a session that was played to its end
-  pub has_run : (a : HasFinished) (said : Result Unit PutFault) (out : SinkSeen) → SaysEnds out said → (course : Course F) × RunsCourse p old (record { player = record mid.player { out = out }; vault = mid.vault }) course
-      (final_status said (stop_in r) (flat_map entry_endings mid.player.desk.seen))
-  has_run a said out says =
+    -- the caller's number, library and limits stay
+    fixed_by : mid.player.desk.fixed ≡ old.player.desk.fixed
+    fixed_by = a.plays.finishes.1.hears.fixed ∙ a.plays.stops.fixed ∙ a.plays.stops.learns.fixed ∙ h.scripted.part.hears.fixed
+
+    desk_by : (journal : List Entry) → journal ≡ mid.player.desk.seen → mid.player.desk ≡ record { fixed = old.player.desk.fixed; seen = journal }
+    desk_by journal is =
+        ap (λ (f : FixedOf M K). record { fixed = f; seen = mid.player.desk.seen }) fixed_by
+        ∙ ap (λ (es : List Entry). record { fixed = old.player.desk.fixed; seen = es }) (sym is)
+
+    finished_by : (journal : List Entry) (out : SinkSeen) (code : ℕ) → journal ≡ mid.player.desk.seen → SaysEnds out said → code ≡ final_status said (stop_in r) (flat_map entry_endings journal)
+        → RunsCourse p old (record { player = record mid.player { desk = record old.player.desk { seen = journal }; out = out }; vault = mid.vault }) h.course code
+    finished_by journal out code is says status =
+        let same : code ≡ final_status said (stop_in r) (flat_map entry_endings mid.player.desk.seen) = status ∙ ap (λ (es : List Entry). final_status said (stop_in r) (flat_map entry_endings es)) is in
+        subst (λ (d : DeskOf M K). RunsCourse p old (record { player = record mid.player { desk = d; out = out }; vault = mid.vault }) h.course code) (desk_by journal is)
+        (subst (RunsCourse p old (record { player = record mid.player { out = out }; vault = mid.vault }) h.course) (sym same) (run_there out says))
+
+  -- a session that was played to its end, with its journal and its status
+  pub has_run : (a : HasFinished) (journal : List Entry) (said : Result Unit PutFault) (out : SinkSeen) (code : ℕ) → journal ≡ mid.player.desk.seen
+      → SaysRest p.setting.tells.out mid.player.out out (flat_map (entry_lines p.setting.clips) journal) (said_by r silenced, said) → mid.player.out.faults ≤ out.faults
+      → code ≡ final_status said (stop_in r) (flat_map entry_endings journal)
+      → (course : Course F) × RunsCourse p old (record { player = record mid.player { desk = record old.player.desk { seen = journal }; out = out }; vault = mid.vault }) course code
+  has_run a journal said out code is lines later status =
       let h = script_course p.setting old.player a.plays.played p.body a.plays.finishes.0 said r silenced a.fresh a.plays.plays in
-      (h.course, run_there a said h out says)
+      let says : SaysEnds out said = record {
+        lines = subst (λ (es : List Entry). SaysRest p.setting.tells.out mid.player.out out (flat_map (entry_lines p.setting.clips) es) (said_by r silenced, said)) is lines;
+        later = later;
+      } in
+      (h.course, finished_by a said h journal out code is says status)

@@ -9,7 +9,13 @@ pub mod Whole
 pub mod Parts
 pub mod Sessions
 pub mod Unstopped
+pub mod Entered
+pub mod Asked
 pub mod Exports
 pub mod Endings
+pub mod Files
+pub mod Names
+pub mod Named
+pub mod Going
 pub mod Exported
 pub mod Finished

@@ -1,5 +1,6 @@
 -- A session's parts, its script, its stop and its exports, make its course.
 use Rattle.std.proofs.Common.{◌≡◌, ℕ, ◌≤◌, Bool, true, false, List, [], ◌∷◌, ◌++◌, map, Option, Some, None, Result, Ok, Err, ◌⊎◌, inl, inr, refl, sym, ap, subst, ◌∙◌, arith}
+use Rattle.std.specs.Prelude.{IsTrue}
 use Rattle.std.specs.List.{flat_map}
 use Rattle.std.specs.Option.{option_map}
 use Rattle.std.proofs.lemmas.List.{append-nil}
@@ -11,6 +12,7 @@ use Rattle.tl_ports.specs.Seen.{SinkSeen, VaultSeen}
 use Rattle.render_core.specs.Calls.{CallOf}
 use Rattle.render_core.specs.Step.{Silent}
 use Rattle.edit_desk.specs.Desk.{FixedOf, DeskOf, IsDesk, Enters, Hears, heard, state_of}
+use Rattle.edit_desk.specs.Was.{Was}
 use Rattle.script_lang.specs.declared.out_line.OutLine.{OutLine}
 use Rattle.script_lang.specs.declared.script.BodyLine.{BodyLine}
 use Rattle.script_lang.specs.declared.script.Call.{Call}
@@ -112,8 +114,8 @@ module _ {M K F : Type 0} (s : Setting M F) (old played : Player M K) (desk : De
   calls_then empty ends = calls_all s old.desk played.desk desk c empty script.part.hears ends
 
 module _ {M K F : Type 0} (p : Program M F) (old : Session M K) (played : Player M K) (desk : DeskOf M K) (vault : VaultSeen) (out : SinkSeen) (c : Course F) (one : Result Unit PutFault) where
-  pub runs_all : old.player.desk.fixed.number ≡ 0 → old.player.desk.seen ≡ [] → Scripted p.setting old.player played p.body c one → Closed p.setting played desk c.carried → IsDesk p.setting.library desk → SaysRest p.setting.tells.out played.out out (end_lines p.setting.clips c.carried) (one, c.said) → played.out.faults ≤ out.faults → CarriesAll (carrier p.setting.library desk p.setting.rate p.vault_tells) old.vault vault c.carried → Exported p old (record { player = record played { desk = desk; out = out }; vault = vault }) c.carried → vault.begun ≡ None → RunsCourse p old (record { player = record played { desk = desk; out = out }; vault = vault }) c (final_status c.said (option_map (λ (h : Halted F). stop_of h.why) c.halted) (map (λ (e : Carried). e.ending) c.carried))
-  runs_all zero empty script closed known rest later carries exported idle =
+  pub runs_all : old.player.desk.fixed.number ≡ 0 → old.player.desk.seen ≡ [] → Scripted p.setting old.player played p.body c one → Closed p.setting played desk c.carried → IsDesk p.setting.library desk → SaysRest p.setting.tells.out played.out out (end_lines p.setting.clips c.carried) (one, c.said) → played.out.faults ≤ out.faults → CarriesAll (carrier p.setting.library desk p.setting.rate p.vault_tells) old.vault vault c.carried → Exported p old (record { player = record played { desk = desk; out = out }; vault = vault }) c.carried → ((front rest : List (CallOf F)) → script_calls c ≡ front ++ rest → Was p.setting.library desk front (λ state. IsTrue state.is_stopped) → ⊥) → vault.begun ≡ None → RunsCourse p old (record { player = record played { desk = desk; out = out }; vault = vault }) c (final_status c.said (option_map (λ (h : Halted F). stop_of h.why) c.halted) (map (λ (e : Carried). e.ending) c.carried))
+  runs_all zero empty script closed known rest later carries exported going idle =
       let s = p.setting in
       let lib = s.library in
       let started = old.player.desk in
@@ -125,6 +127,7 @@ module _ {M K F : Type 0} (p : Program M F) (old : Session M K) (played : Player
         known = known;
         lines = script.part.lines;
         whole = whole_then s old.player played desk p.body c one script empty ends;
+        going = going;
         begun = begun_then s old.player played desk p.body c one script ends;
         calls = calls_then s old.player played desk p.body c one script empty ends;
         says = subst (λ (f : FixedOf M K). SaysBy s.tells.out old.player.out out (flat_map (lines_of (lib f.library)) c.played ++ halted_lines c.halted ++ end_lines s.clips c.carried) c.said) (sym fixed)

@@ -17,6 +17,7 @@ use Rattle.render_core.specs.Export.{ExportOf}
 use Rattle.render_core.specs.State.{owed}
 use Rattle.render_core.specs.Step.{Silent}
 use Rattle.edit_desk.specs.Desk.{DeskOf, IsDesk, Enters, state_of, heard}
+use Rattle.edit_desk.specs.Was.{Was}
 use Rattle.script_lang.specs.declared.out_line.OutLine.{OutLine}
 use Rattle.script_lang.specs.declared.script.BodyLine.{BodyLine}
 use Rattle.play_head.specs.declared.halt.Halt.{Halt}
@@ -176,6 +177,9 @@ module _ {M K F : Type 0} where
     pub lines : AreLines p.body c.played c.halted
     -- 1 and 7: a whole line has all its calls, and one of work its turns
     pub whole : AreWhole p.setting new.player.desk [] c.played
+    -- 7: nothing stops the session before its stop: with just some first calls of the script it wasn't stopped
+    pub going : (front rest : List (CallOf F)) → script_calls c ≡ front ++ rest
+        → Was p.setting.library new.player.desk front (λ state. IsTrue state.is_stopped) → ⊥
     -- 1: the line that stopped has some first of its calls
     pub begun : IsBegun p.setting new.player.desk c.halted
     -- 1: the caller's calls in the journal are those of these lines, the stop, and those of the exports
