@@ -27,16 +27,14 @@ pub struct Alone<M: Media + Drop, L: Lane> {
 }
 
 impl<M: Media + Drop, L: Lane> Model for Alone<M, L> {
-    ghost use Rattle.std.specs.Prelude.{◌≡◌};
-    ghost use Rattle.render_core.specs.Calls.{own};
     ghost use Rattle.edit_desk.specs.Desk.{DeskOf};
-    ghost use Rattle.edit_desk.specs.Alone.{desk_of};
+    ghost use Rattle.edit_desk.specs.Alone.{desk_of, IsOwned};
 
     ghost Value = { DeskOf M (Unit {0}) };
 
     ghost view = { λ a. desk_of a.board };
 
-    ghost invariant = { λ a. (a.media ≡ a.board.library) × (own 0 a.board.journal ≡ a.board.journal) };
+    ghost invariant = { λ a. IsOwned a.media a.board };
 }
 
 impl<M: Media + Drop, L: Lane> Alone<M, L> {

@@ -76,6 +76,10 @@ abbrev pub setting_of : {M : Type 0} → (M → Library Image) → (clips : List
 setting_of library clips rate files tells =
     record { library = library; rows = image_rows; clips = clips; rate = rate; files = files; tells = tells }
 
+-- Whether each of the three tells what it holds.
+abbrev pub tells_of : (store screen out : Bool) → Tells
+tells_of store screen out = record { store = store; screen = screen; out = out }
+
 module _ {M K : Type 0} where
   -- Nothing but `out` changes, and its count of faults doesn't fall.
   pub record OnlyPuts (old new : Player M K) : Type 0 where
