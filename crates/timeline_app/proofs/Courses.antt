@@ -75,9 +75,12 @@ module _ {M K F : Type 0} (s : Setting M F) where
 
   pub part_front : (old new : Player M K) (body : List BodyLine) (why : Halt) (f : PlaysFront s old new body why) (carried : List Carried) (said : Result Unit PutFault) → ScriptPart old new body (record { played = f.plays.played; halted = Some (halted_by f.between new f.line why f.part); carried = carried; said = said })
   part_front old new body why f carried said = record {
-    lines = (f.rest, f.is
-        ∙ ap (λ (ls : List BodyLine). ls ++ f.line ∷ f.rest) (sym f.plays.is)
-        ∙ ap (λ (l : BodyLine). map (λ (p : Played F). p.line) f.plays.played ++ l ∷ f.rest) (sym f.part.is));
+    lines = (
+      f.rest,
+      f.is
+          ∙ ap (λ (ls : List BodyLine). ls ++ f.line ∷ f.rest) (sym f.plays.is)
+          ∙ ap (λ (l : BodyLine). map (λ (p : Played F). p.line) f.plays.played ++ l ∷ f.rest) (sym f.part.is),
+    );
     whole = are_later s f.between.desk new.desk (heard s.library old.desk) f.part.played.calls f.plays.played f.part.hears f.plays.whole;
     begun = begun_there f.between new f.line why f.part;
     hears = hears_on s.library old.desk f.between.desk new.desk (flat_map (λ (p : Played F). p.calls) f.plays.played) f.part.played.calls f.plays.hears f.part.hears;

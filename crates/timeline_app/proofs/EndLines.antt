@@ -20,7 +20,6 @@ entries_more : (es : List Entry) (i : ℕ) (e : Entry) → i < length es → e �
 entries_more es i e within is = take_more es i e within ∙ ap (λ (x : Entry). take i es ++ x ∷ []) (sym is)
 
 module _ (clips : List (List ℕ × ℕ)) where
-
   lines_more : (es : List Entry) (i : ℕ) (e : Entry) → i < length es → e ≡ get_or es i e → flat_map (entry_lines clips) (take i es) ++ entry_lines clips e ≡ flat_map (entry_lines clips) (take (i + 1) es)
   lines_more es i e within is =
       sym (ap (flat_map (entry_lines clips)) (entries_more es i e within is)
@@ -39,9 +38,9 @@ module _ (clips : List (List ℕ × ℕ)) where
       let first = flat_map (entry_lines clips) (take i es) in
       let rest = flat_map (entry_lines clips) (drop (i + 1) es) in
       let all : (first ++ entry_lines clips e) ++ rest ≡ flat_map (entry_lines clips) es =
-          ap (λ (ls : List OutLine). ls ++ rest) (lines_more es i e within is)
-          ∙ sym (flat_map-append (entry_lines clips) (take (i + 1) es) (drop (i + 1) es))
-          ∙ ap (flat_map (entry_lines clips)) (take-append-drop (i + 1) es) in
+      ap (λ (ls : List OutLine). ls ++ rest) (lines_more es i e within is)
+      ∙ sym (flat_map-append (entry_lines clips) (take (i + 1) es) (drop (i + 1) es))
+      ∙ ap (flat_map (entry_lines clips)) (take-append-drop (i + 1) es) in
       subst (λ (ls : List OutLine). SaysBy tells old new ls (Err fault)) all
       (says_silent tells old new (first ++ entry_lines clips e) rest fault
       (says_then tells old mid new first (entry_lines clips e) (Err fault) h le k))

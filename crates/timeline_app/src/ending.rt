@@ -116,21 +116,39 @@ pub fn say_endings<O: Sink>(
 fn is_sink(entry: &Entry) -> bool
     ensures { result ≡ any_ending is_sink entry.now }
 {
-    matches!(&entry.act, Act::End { export: _, ending: Ending::Sink })
+    matches!(
+        &entry.act,
+        Act::End {
+            export: _,
+            ending: Ending::Sink
+        }
+    )
 }
 
 fn is_memory(entry: &Entry) -> bool
     ensures { result ≡ any_ending is_memory entry.now }
 {
-    matches!(&entry.act, Act::End { export: _, ending: Ending::NoMemory })
+    matches!(
+        &entry.act,
+        Act::End {
+            export: _,
+            ending: Ending::NoMemory
+        }
+    )
 }
 
 fn is_fault(entry: &Entry) -> bool
     ensures { result ≡ any_ending is_fault entry.now }
 {
     match &entry.act {
-        Act::End { export: _, ending: Ending::ClipFault { at: _, fault: _ } } => true,
-        Act::End { export: _, ending: Ending::SliceTooLong { at: _ } } => true,
+        Act::End {
+            export: _,
+            ending: Ending::ClipFault { at: _, fault: _ },
+        } => true,
+        Act::End {
+            export: _,
+            ending: Ending::SliceTooLong { at: _ },
+        } => true,
         _ => false,
     }
 }
@@ -190,11 +208,7 @@ fn unless_stopped(status: u8, played: Result<(), Stop>) -> u8
 }
 
 /// The status of a session, by how the puts to `out` went, how playing its script ended, and its journal.
-pub fn final_status(
-    said: Result<(), PutFault>,
-    played: Result<(), Stop>,
-    journal: &[Entry],
-) -> u8
+pub fn final_status(said: Result<(), PutFault>, played: Result<(), Stop>, journal: &[Entry]) -> u8
     ensures { result ≡ final_status said (stop_in played) (flat_map entry_endings journal.now) }
 {
     match said {

@@ -30,7 +30,7 @@ returns g c =
       vault = g.V.Vault.seen c.play_all-playback.new.vault;
     } in
     let said : SaysRest g.O.Sink.tells before after (flat_map (entry_lines clips) c.finish-journal.result) (c.said_by.result, c.say_rest-said.result) =
-        subst (λ (es : List Entry). SaysRest g.O.Sink.tells before after (flat_map (entry_lines clips) es) (c.said_by.result, c.say_rest-said.result)) c.as_slice.ensures c.say_rest-said.ensures.says in
+    subst (λ (es : List Entry). SaysRest g.O.Sink.tells before after (flat_map (entry_lines clips) es) (c.said_by.result, c.say_rest-said.result)) c.as_slice.ensures c.say_rest-said.ensures.says in
     has_run p old mid played.result played.is_silenced
     (record {
       number = c.requires.main;
