@@ -1,6 +1,0 @@
-use Rattle.std.proofs.Common.{◌≡◌, map, take, length, not, nat_eq, filter}
-use Rattle.timeline_app.proofs.parse.words_of.Given as goal
-
-abbrev pub invariant-loop-piece : goal.invariant-loop-piece
-invariant-loop-piece l =
-    map (λ word. word.now) l.words.items ≡ filter (λ word. not (nat_eq (length word) 0)) (map (λ piece. piece.now) (take l.piece-index l.piece-items))
