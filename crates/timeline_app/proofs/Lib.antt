@@ -1,7 +1,3 @@
-pub mod Digits
-pub mod Text
-pub mod Stops
-pub mod Exporting
-pub mod Saying
-pub mod Running
-pub mod Faulty
+mod Loading
+mod Formats
+mod HeadListed

@@ -1,5 +1,4 @@
-pub mod Script
-pub mod Reading
-pub mod Lines
-pub mod Run
-pub mod Top
+pub mod Words
+pub mod Session
+pub mod Head
+pub mod Opening

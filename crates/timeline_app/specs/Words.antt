@@ -1,5 +1,6 @@
 -- The words of the command line: SCRIPT [--workers N] [--cache N] [--journal N].
-use Rattle.std.specs.Prelude.{◌≡◌, ◌⊎◌, ◌≤◌, ◌==◌, ◌&&◌, not, ℕ, Bool, true, false, List, [], ◌∷◌, length, take, codes, Option, Some, None, Result, Ok, Err}
+use Rattle.std.specs.Prelude.{◌≡◌, ◌⊎◌, ◌≤◌, ◌==◌, ◌&&◌, not, ℕ, Bool, true, false, List, [], ◌∷◌, length, take, codes}
+use Rattle.std.specs.Prelude.{Option, Some, None, Result, Ok, Err}
 use Rattle.std.specs.Str.{bytes_eq}
 use Rattle.std.specs.Str.Parse.{digits_value, without_leading_plus}
 use Rattle.clap.specs.Values.{IsUnsignedIn}
@@ -49,10 +50,14 @@ is_named (Some script) = not (is_made script)
 abbrev pub is_of_form : List Text → Bool
 is_of_form words = (length (fault_of command words) == 0) && is_named (first_of (codes "SCRIPT") (matches_of command words))
 
+-- Its text is a number within the bounds.
+abbrev pub IsWithin : Bounds → Text → Type 0
+IsWithin bounds text = IsUnsignedIn bounds.least bounds.most text
+
 -- The usual number where the option isn't given, else the one that its text is. It is within the bounds.
 pub record IsNumber (bounds : Bounds) (given : Option Text) (n : ℕ) : Type 0 where
   pub usual : given ≡ None → n ≡ bounds.usual
-  pub read : (text : Text) → given ≡ Some text → IsUnsignedIn bounds.least bounds.most text → n ≡ digits_value 10 (without_leading_plus text)
+  pub read : (text : Text) → given ≡ Some text → IsWithin bounds text → n ≡ digits_value 10 (without_leading_plus text)
   pub least : bounds.least ≤ n
   pub most : n ≤ bounds.most
 
