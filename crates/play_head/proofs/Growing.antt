@@ -71,7 +71,7 @@ module _ {M K F : Type 0} (s : Setting M F) where
   calls_later d new before more p h (call.Roll first len) x = x
   calls_later d new before more p h (call.Export file) x = x
 
-  are_later : (d new : DeskOf M K) (before more : List (CallOf F)) (ps : List (Played F)) → Hears s.library d new more → AreWhole s d before ps → AreWhole s new before ps
+  pub are_later : (d new : DeskOf M K) (before more : List (CallOf F)) (ps : List (Played F)) → Hears s.library d new more → AreWhole s d before ps → AreWhole s new before ps
   are_later d new before more [] h w = tt
   are_later d new before more (p ∷ ps) h w =
       (record { calls = calls_later d new before more p h p.line.call w.0.calls; list = w.0.list }, are_later d new (before ++ p.calls) more ps h w.1)

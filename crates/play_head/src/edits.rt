@@ -18,7 +18,7 @@ fn is_named(clip: &Name, name: &Name) -> bool
 }
 
 /// The number of the first clip of a name, or the number of clips where none has it.
-fn clip_number(clips: &Clips, name: &Name) -> u32
+pub fn clip_number(clips: &Clips, name: &Name) -> u32
     requires { length clips.now ≤ max_clips }
     ensures number { result ≡ clip_number clips.now name.now }
     ensures within { result ≤ max_clips }

@@ -8,7 +8,7 @@ use tl_ports::FetchFault;
 
 /// Why a line stopped before its end.
 #[derive(Clone, Copy, Debug, PartialEq, Eq)]
-pub(crate) enum Halt {
+pub enum Halt {
     /// The line's edit list wasn't fetched, for another cause than want of memory.
     Store { fault: FetchFault },
     /// A picture couldn't be put to the screen.

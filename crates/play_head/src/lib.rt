@@ -23,7 +23,11 @@ mod work;
 mod working;
 
 pub use body::{play_body, play_script};
-pub use ending::Playback;
+pub use edits::clip_number;
+pub use ending::{Playback, store_word};
 pub use exports::{carry, finish_exports};
+pub use halt::Halt;
 pub use roll::Roll;
+pub use say::say as say_line;
 pub use stop::Stop;
+pub use told::fault_word;

@@ -14,7 +14,7 @@ use std::alloc::Global;
 use tl_ports::{PutFault, Sink};
 
 /// Puts a line, as one piece.
-pub(crate) fn say<O: Sink>(alloc: Global, out: &mut O, line: &OutLine) -> Result<(), PutFault>
+pub fn say<O: Sink>(alloc: Global, out: &mut O, line: &OutLine) -> Result<(), PutFault>
     requires { IsTrue (is_listed line.now) }
     ensures got { Gets O.tells (O.seen out.old) (O.seen out.new) (line_text line.now ∷ []) result }
     ensures cause { PutHasCause (O.seen out.old).faults (O.seen out.new).faults result }

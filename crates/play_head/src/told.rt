@@ -84,7 +84,7 @@ pub(crate) fn cancel_line(told: CancelReply) -> OutLine
 }
 
 /// The word for what is wrong with a frame.
-fn fault_word(kind: FrameFault) -> &'static str
+pub fn fault_word(kind: FrameFault) -> &'static str
     ensures { result.now ≡ fault_word kind }
 {
     match kind {
