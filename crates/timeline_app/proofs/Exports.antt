@@ -15,7 +15,7 @@ use Rattle.edit_desk.specs.Desk.{DeskOf, IsDesk, setup_of, state_of, heard}
 use Rattle.edit_desk.proofs.Holding.{HasNone}
 use Rattle.play_head.specs.Carrying.{Carried, carried_calls}
 use Rattle.timeline_app.specs.Course.{Course, AreNumbered, course_calls, ended_export, script_calls, stop_call}
-use Rattle.timeline_app.proofs.Asked.{AreUntaken, after_calls, asked_names, names_of}
+use Rattle.timeline_app.proofs.AskedNames.{AreUntaken, after_calls, asked_names, names_of}
 use Rattle.timeline_app.proofs.Entered.{AreAnswered, answered_later, has_entries, told_first}
 use Rattle.timeline_app.proofs.Kept.{IsApart}
 

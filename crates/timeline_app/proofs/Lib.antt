@@ -1,21 +1,25 @@
-pub mod Listed
-pub mod Courses
-pub mod Speaking
-pub mod EndLines
-pub mod Stopped
-pub mod Causes
-pub mod Kept
-pub mod Whole
-pub mod Parts
-pub mod Sessions
-pub mod Unstopped
-pub mod Entered
-pub mod Asked
-pub mod Exports
-pub mod Endings
-pub mod Files
-pub mod Names
-pub mod Named
-pub mod Going
-pub mod Exported
-pub mod Finished
+mod Loading
+mod Formats
+mod Listed
+mod HeadListed
+mod Courses
+mod Speaking
+mod EndLines
+mod Stopped
+mod Causes
+mod Kept
+mod Whole
+mod Parts
+mod Sessions
+mod Unstopped
+mod Entered
+mod AskedNames
+mod Exports
+mod Endings
+mod Files
+mod Names
+mod Named
+mod Going
+mod Exported
+mod Finished
+mod Starting

@@ -13,6 +13,10 @@ pub usage_listed : IsTrue (is_listed out.Usage)
 unfolding fields
 usage_listed = refl
 
+pub memory_listed : IsTrue (is_listed out.NoMemory)
+unfolding fields
+memory_listed = refl
+
 fault_listed : (export at : ℕ) (clip : List ℕ) (frame : ℕ) (kind : FrameFault) → IsTrue (is_listed (out.ExportFault export at clip frame (fault_word kind)))
 unfolding fields
 fault_listed export at clip frame frames.Empty = refl

@@ -13,7 +13,7 @@ use Rattle.script_lang.specs.ScriptSound.{AreDistinct}
 use Rattle.script_lang.specs.ScriptText.{export_files}
 use Rattle.play_head.specs.Playing.{Setting, Played, HasCalls, HasSomeCalls, AreWhole}
 use Rattle.timeline_app.specs.Course.{Course, Halted, AreLines, IsBegun, halted_calls, script_calls}
-use Rattle.timeline_app.proofs.Asked.{asked_names}
+use Rattle.timeline_app.proofs.AskedNames.{asked_names}
 use Rattle.timeline_app.proofs.Names.{IsWithin, line_within, whole_within, within-append, within_distinct, within_front, work_within}
 
 -- the files that lines export

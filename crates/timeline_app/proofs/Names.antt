@@ -21,7 +21,7 @@ use Rattle.play_head.specs.Acts.{line_acts}
 use Rattle.play_head.specs.Roll.{ahead, frame_calls}
 use Rattle.play_head.specs.Work.{Turn, AreTurns, IsTurn, turns_calls}
 use Rattle.play_head.specs.Playing.{HasTurns, acts_of}
-use Rattle.timeline_app.proofs.Asked.{asked_names, act_asked, name_asked}
+use Rattle.timeline_app.proofs.AskedNames.{asked_names, act_asked, name_asked}
 use Rattle.timeline_app.proofs.Files.{or_left, or_right}
 
 -- ---- a list within another one, in order
