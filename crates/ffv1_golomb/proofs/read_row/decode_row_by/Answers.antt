@@ -6,7 +6,7 @@ use Rattle.ffv1_slice.proofs.Rows.{left_more, set_here}
 use Rattle.ffv1_golomb.specs.Reading.{Line, line_begun}
 use Rattle.ffv1_golomb.specs.Ahead.{coding_ahead}
 use Rattle.ffv1_golomb.proofs.RowSteps.{row_begun, row_more, row_done}
-use Rattle.ffv1_golomb.proofs.read_row.decode_row.Goals as goal
+use Rattle.ffv1_golomb.proofs.read_row.decode_row_by.Goals as goal
 
 pub loop-x-init : goal.loop-x-init
 loop-x-init c = record {
@@ -26,7 +26,7 @@ loop-x-preserved c =
     let same : length c.loop-x.row ≡ width = omega arith in
     let is : rest ≡ width - c.loop-x.x = omega arith in
     let sample : ℕ = c.in_ok-seen.seen.sample in
-    let old : Coding = coding_ahead c.loop-x.zeros c.loop-x.run c.loop-x.states c.loop-x.bits in
+    let old : Coding = coding_ahead c.loop-x.zeros c.loop-x.here c.loop-x.states c.loop-x.bits in
     let new : Coding = coding_ahead c.in_ok-seen.seen.zeros c.read_sample.new.run c.read_sample.new.states c.read_sample.new.bits in
     let start : Line = line_begun width (coding (source c.args.run.now c.args.bits) c.args.states.now) in
     record {
@@ -41,4 +41,4 @@ returns-clause-ok c =
     let r : Rows = rows c.args.above2.now c.args.above.now c.loop-x.row in
     let all : c.loop-x.x ≡ length c.loop-x.row = omega arith in
     let same : length c.args.row.now ≡ length c.loop-x.row = omega arith in
-    row_done c.args.tables.now r c.loop-x.x (length c.args.row.now) c.loop-x.zeros (coding (source c.args.run.now c.args.bits) c.args.states.now) c.loop-x.run c.loop-x.states c.loop-x.bits all same c.loop-x.invariant.few c.loop-x.invariant.read
+    row_done c.args.tables.now r c.loop-x.x (length c.args.row.now) c.loop-x.zeros (coding (source c.args.run.now c.args.bits) c.args.states.now) c.loop-x.here c.loop-x.states c.loop-x.bits all same c.loop-x.invariant.few c.loop-x.invariant.read

@@ -2,7 +2,7 @@ use Rattle.std.proofs.Common.{◌≡◌, ◌+◌, ◌-◌, ◌<◌, ◌^◌}
 use Rattle.ffv1_range.specs.Transition.{AllKept}
 use Rattle.ffv1_range.specs.Symbol.{magnitude_at}
 use Rattle.ffv1_range.specs.Position.{source_at, IsSound}
-use Rattle.ffv1_range.proofs.reader.magnitude_from.Given as goal
+use Rattle.ffv1_range.proofs.read_symbol.magnitude_from.Given as goal
 
 abbrev pub invariant-loop-i : goal.invariant-loop-i
 invariant-loop-i l = record {

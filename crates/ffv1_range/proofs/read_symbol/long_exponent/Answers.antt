@@ -1,6 +1,6 @@
 use Rattle.std.proofs.Common.{arith}
 use Rattle.ffv1_range.proofs.Steps.{exponent_at-ones, exponent_at-zero, exponent_at-end}
-use Rattle.ffv1_range.proofs.reader.exponent_from.Goals as goal
+use Rattle.ffv1_range.proofs.read_symbol.long_exponent.Goals as goal
 
 pub returns-then-not-bit_at-clause-exponent : goal.returns-then-not-bit_at-clause-exponent
 returns-then-not-bit_at-clause-exponent c = grind (arith, exponent_at-zero)
