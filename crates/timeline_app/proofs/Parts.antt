@@ -39,7 +39,7 @@ module _ {M K F : Type 0} (s : Setting M F) where
   -- why a line stopped, over a session
   cause_of : (old between halted : Player M K) (p : Played F) (left : List Act) (why : Halt) (h : StopsLine s between halted (p, left) why) (calls : List (CallOf F)) (new : DeskOf M K) (out : SinkSeen) (more : List (CallOf F)) → Lasts old between → Lasts between halted → heard s.library old.desk ≡ [] → Hears s.library old.desk halted.desk calls → Hears s.library halted.desk new more → halted.out.faults ≤ out.faults → IsCause s old (record halted { desk = new; out = out }) (calls, record { played = p; left = left; output = output_by s between halted p left why h; why = why }) why
   cause_of old between halted p left (halt.Store fault) h calls new out more l k empty script ends later =
-      (fetch_within s.tells.store old.store between.store halted.store halted.store l.files l.store (omega arith) _ fault h.2 h.1, h.2)
+      (fetch_within s.tells.store old.store between.store halted.store halted.store l.files l.store (omega arith) _ fault h.2 h.1, h.2, h.3, h.4)
   cause_of old between halted p left halt.Screen h calls new out more l k empty script ends later =
       rose_within old.screen.faults between.screen.faults halted.screen.faults halted.screen.faults l.screen (omega arith) h.2
   cause_of old between halted p left halt.Out h calls new out more l k empty script ends later =
