@@ -1,8 +1,6 @@
 -- What stopped a script is so at the session's end.
-use Rattle.std.proofs.Common.{◌≡◌, ℕ, ◌+◌, ◌<◌, ◌≤◌, Bool, List, [], ◌∷◌, ◌++◌, Option, Result, Ok, Err, ◌⊎◌, inl, inr, refl, sym, ap, subst, ◌∙◌, arith}
-use Rattle.tl_model.specs.Media.{Library}
+use Rattle.std.proofs.Common.{◌≡◌, ℕ, ◌+◌, ◌<◌, ◌≤◌, Bool, List, [], ◌++◌, Option, Err, inl, inr, refl, sym, ap, subst, ◌∙◌, arith}
 use Rattle.tl_model.specs.declared.journal.Act.{Act}
-use Rattle.tl_model.specs.declared.journal.Entry.{Entry}
 use Rattle.tl_ports.specs.declared.fault.FetchFault.{FetchFault}
 use Rattle.tl_ports.specs.declared.fault.FetchFault.TheVariants as fetching
 use Rattle.tl_ports.specs.Outside.{Rose, Wanted, FetchHasCause}

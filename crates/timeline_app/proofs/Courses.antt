@@ -1,8 +1,7 @@
 -- What the parts of a session make of its course.
-use Rattle.std.proofs.Common.{◌≡◌, ℕ, ◌≤◌, Bool, List, [], ◌∷◌, ◌++◌, map, Some, None, Result, Ok, Err, ◌⊎◌, inl, inr, refl, sym, ap, subst, ◌∙◌}
+use Rattle.std.proofs.Common.{◌≡◌, ℕ, List, [], ◌∷◌, ◌++◌, map, Some, None, Result, ◌⊎◌, inl, inr, refl, sym, ap, subst, ◌∙◌}
 use Rattle.std.specs.List.{flat_map}
-use Rattle.std.proofs.lemmas.List.{append-nil, append_assoc}
-use Rattle.tl_model.specs.Media.{Library}
+use Rattle.std.proofs.lemmas.List.{append-nil}
 use Rattle.tl_model.specs.declared.journal.Act.{Act}
 use Rattle.tl_model.specs.declared.journal.Act.TheVariants as act
 use Rattle.tl_ports.specs.declared.fault.PutFault.{PutFault}
@@ -11,7 +10,6 @@ use Rattle.render_core.specs.Step.{Silent}
 use Rattle.edit_desk.specs.Desk.{FixedOf, DeskOf, Enters, Hears, heard, setup_of}
 use Rattle.edit_desk.proofs.Heard.{hears_on, hears_enters}
 use Rattle.script_lang.specs.declared.script.BodyLine.{BodyLine}
-use Rattle.script_lang.specs.declared.script.Call.{Call}
 use Rattle.play_head.specs.declared.halt.Halt.{Halt}
 use Rattle.play_head.specs.declared.halt.Halt.TheVariants as halt
 use Rattle.play_head.specs.Carrying.{Carried, FinishesExports, carried_calls}

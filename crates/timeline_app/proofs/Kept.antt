@@ -1,5 +1,5 @@
 -- The lines of a script make no take, no end of an export and no stop.
-use Rattle.std.proofs.Common.{◌≡◌, ℕ, zero, suc, ◌+◌, Bool, true, false, cond, List, [], ◌∷◌, ◌++◌, map, Option, Some, None, Result, Ok, Err, ◌⊎◌, inl, inr, refl, sym, ap, subst, ◌∙◌}
+use Rattle.std.proofs.Common.{◌≡◌, ℕ, zero, suc, ◌+◌, Bool, true, false, cond, List, [], ◌∷◌, ◌++◌, Option, Some, None, Result, Ok, Err, inl, inr, sym, subst}
 use Rattle.std.specs.Prelude.{nat_lt}
 use Rattle.std.specs.List.{flat_map}
 use Rattle.tl_model.specs.Cells.{run}
@@ -13,7 +13,7 @@ use Rattle.edl_text.specs.declared.fault.EdlFault.{EdlFault}
 use Rattle.script_lang.specs.declared.script.Call.{Call}
 use Rattle.script_lang.specs.declared.script.Call.TheVariants as call
 use Rattle.play_head.specs.Acts.{line_acts}
-use Rattle.play_head.specs.Roll.{ahead, frame_calls, roll_calls}
+use Rattle.play_head.specs.Roll.{ahead, frame_calls}
 use Rattle.play_head.specs.Work.{Turn, AreTurns, IsTurn, turns_calls}
 use Rattle.play_head.specs.Playing.{Setting, Played, HasTurns, HasCalls, HasSomeCalls, AreWhole, acts_of}
 use Rattle.timeline_app.specs.Course.{Course, Halted, IsBegun, halted_calls, script_calls}

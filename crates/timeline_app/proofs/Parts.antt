@@ -1,27 +1,26 @@
 -- A script that was played, to its end or up to a stop, as the part of a course that is its.
-use Rattle.std.proofs.Common.{◌≡◌, ℕ, ◌≤◌, Bool, true, false, List, [], ◌∷◌, ◌++◌, Option, Some, None, Result, Ok, Err, inl, inr, refl, sym, ap, subst, ◌∙◌, arith}
+use Rattle.std.proofs.Common.{◌≡◌, ◌≤◌, Bool, List, [], ◌++◌, Some, None, Result, Ok, Err, sym, subst, ◌∙◌, arith}
 use Rattle.std.specs.List.{flat_map}
 use Rattle.std.proofs.lemmas.List.{append-nil}
 use Rattle.tl_model.specs.declared.journal.Act.{Act}
 use Rattle.tl_ports.specs.declared.fault.PutFault.{PutFault}
-use Rattle.tl_ports.specs.Outside.{Rose}
-use Rattle.tl_ports.specs.Seen.{SinkSeen, StoreSeen}
+use Rattle.tl_ports.specs.Seen.{SinkSeen}
 use Rattle.render_core.specs.Calls.{CallOf}
-use Rattle.edit_desk.specs.Desk.{FixedOf, DeskOf, Hears, heard}
+use Rattle.edit_desk.specs.Desk.{DeskOf, Hears, heard}
 use Rattle.script_lang.specs.declared.out_line.OutLine.{OutLine}
 use Rattle.script_lang.specs.declared.script.BodyLine.{BodyLine}
 use Rattle.play_head.specs.declared.halt.Halt.{Halt}
 use Rattle.play_head.specs.declared.halt.Halt.TheVariants as halt
 use Rattle.play_head.specs.declared.stop.Stop.{Stop}
 use Rattle.play_head.specs.Carrying.{Carried}
-use Rattle.play_head.specs.Playing.{Setting, Player, Played, AreWhole, lines_of, rows_of}
-use Rattle.play_head.specs.PlayingLine.{Lasts, PlaysPart, StopsLine, texts}
-use Rattle.play_head.specs.PlayingScript.{PlaysLines, PlaysFront, StopsScript, SaysStop, stop_lines}
+use Rattle.play_head.specs.Playing.{Setting, Player, Played, lines_of, rows_of}
+use Rattle.play_head.specs.PlayingLine.{Lasts, StopsLine, texts}
+use Rattle.play_head.specs.PlayingScript.{PlaysLines, PlaysFront, SaysStop, stop_lines}
 use Rattle.play_head.specs.Putting.{GotAll}
-use Rattle.timeline_app.specs.Course.{Course, Halted, HasCause, IsBegun, IsCause, SaysBy, ShowsBy, script_calls}
+use Rattle.timeline_app.specs.Course.{IsCause, script_calls}
 use Rattle.timeline_app.specs.Ending.{said_by}
 use Rattle.timeline_app.proofs.Causes.{fetch_within, refused_there, rose_within}
-use Rattle.timeline_app.proofs.Courses.{ScriptPart, halted_by, output_by, part_front, part_whole}
+use Rattle.timeline_app.proofs.Courses.{halted_by, output_by, part_front, part_whole}
 use Rattle.timeline_app.proofs.Speaking.{says_then}
 use Rattle.timeline_app.proofs.Stopped.{part_says, part_shows, shows_then}
 use Rattle.timeline_app.proofs.Whole.{Scripted}
@@ -40,7 +39,7 @@ module _ {M K F : Type 0} (s : Setting M F) where
   -- why a line stopped, over a session
   cause_of : (old between halted : Player M K) (p : Played F) (left : List Act) (why : Halt) (h : StopsLine s between halted (p, left) why) (calls : List (CallOf F)) (new : DeskOf M K) (out : SinkSeen) (more : List (CallOf F)) → Lasts old between → Lasts between halted → heard s.library old.desk ≡ [] → Hears s.library old.desk halted.desk calls → Hears s.library halted.desk new more → halted.out.faults ≤ out.faults → IsCause s old (record halted { desk = new; out = out }) (calls, record { played = p; left = left; output = output_by s between halted p left why h; why = why }) why
   cause_of old between halted p left (halt.Store fault) h calls new out more l k empty script ends later =
-      (fetch_within s.tells.store old.store between.store halted.store halted.store l.files l.store (omega arith) _ fault h.2 h.1, h.2)
+      (fetch_within s.tells.store old.store between.store halted.store halted.store l.files l.store (omega arith) _ fault h.2 h.1, h.2, h.3, h.4)
   cause_of old between halted p left halt.Screen h calls new out more l k empty script ends later =
       rose_within old.screen.faults between.screen.faults halted.screen.faults halted.screen.faults l.screen (omega arith) h.2
   cause_of old between halted p left halt.Out h calls new out more l k empty script ends later =

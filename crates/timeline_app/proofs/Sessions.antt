@@ -1,5 +1,5 @@
 -- A session that was played, to its end or up to a stop, has a course.
-use Rattle.std.proofs.Common.{◌≡◌, ℕ, ◌≤◌, Bool, true, false, List, [], Option, Some, None, Result, Ok, Err, ◌⊎◌, inl, inr, refl, sym, ap, subst, ◌∙◌}
+use Rattle.std.proofs.Common.{◌≡◌, Bool, true, false, List, [], Some, None, Result, Ok, Err, inl, inr, refl, sym, ap, subst, ◌∙◌}
 use Rattle.std.specs.Option.{option_map}
 use Rattle.tl_model.specs.declared.fault.Ending.{Ending}
 use Rattle.tl_ports.specs.declared.fault.PutFault.{PutFault}

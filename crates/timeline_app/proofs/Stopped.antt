@@ -1,7 +1,6 @@
 -- What a line that stopped had put, and the same over a session.
-use Rattle.std.proofs.Common.{◌≡◌, ℕ, ◌≤◌, Bool, true, false, List, [], ◌∷◌, ◌++◌, Option, Some, None, Result, Ok, Err, ◌⊎◌, inl, inr, refl, sym, ap, subst, ◌∙◌, arith}
+use Rattle.std.proofs.Common.{◌≡◌, ℕ, ◌≤◌, Bool, true, false, List, [], ◌++◌, Option, Some, None, Ok, Err, inl, inr}
 use Rattle.tl_model.specs.declared.journal.Act.{Act}
-use Rattle.tl_ports.specs.declared.fault.PutFault.{PutFault}
 use Rattle.tl_ports.specs.declared.fault.PutFault.TheVariants as putting
 use Rattle.tl_ports.specs.Outside.{Rose}
 use Rattle.tl_ports.specs.Seen.{SinkSeen}
@@ -13,7 +12,7 @@ use Rattle.play_head.specs.Playing.{Setting, Player, Played}
 use Rattle.play_head.specs.PlayingLine.{PlaysPart, StopsLine, texts}
 use Rattle.play_head.specs.PlayingScript.{SaysStop, is_silent, stop_lines}
 use Rattle.play_head.specs.Putting.{GotAll, GotFront}
-use Rattle.play_head.proofs.Pieces.{all_then, front_nothing}
+use Rattle.play_head.proofs.Pieces.{all_then}
 use Rattle.timeline_app.specs.Course.{SaysBy, ShowsBy}
 use Rattle.timeline_app.specs.Ending.{said_by}
 use Rattle.timeline_app.proofs.Courses.{output_by}

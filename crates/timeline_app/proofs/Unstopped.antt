@@ -1,7 +1,6 @@
 -- A session isn't stopped before its stop.
-use Rattle.std.proofs.Common.{◌≡◌, ℕ, Bool, true, false, List, [], ◌∷◌, Some, None, Result, Ok, Err, refl, sym, ap, subst, ◌∙◌}
+use Rattle.std.proofs.Common.{◌≡◌, Bool, true, false, List, [], ◌∷◌, Some, None, Result, Ok, Err, sym, ap, subst, ◌∙◌}
 use Rattle.tl_model.specs.Media.{Library}
-use Rattle.tl_model.specs.declared.journal.Act.{Act}
 use Rattle.tl_model.specs.declared.journal.Entry.{Entry}
 use Rattle.render_core.specs.Calls.{CallOf}
 use Rattle.render_core.specs.Step.{state_after}
@@ -12,7 +11,7 @@ use Rattle.play_head.specs.declared.stop.Stop.{Stop}
 use Rattle.play_head.specs.Playing.{Setting, Player}
 use Rattle.play_head.specs.PlayingScript.{PlaysScript}
 use Rattle.play_head.proofs.Desks.{number-hears}
-use Rattle.timeline_app.specs.Course.{Course, Halted, script_calls}
+use Rattle.timeline_app.specs.Course.{Course, script_calls}
 use Rattle.timeline_app.proofs.Courses.{ScriptPart, halted_by, part_front, part_whole}
 use Rattle.timeline_app.proofs.Kept.{IsApart, script_none}
 

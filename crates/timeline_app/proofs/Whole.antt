@@ -1,9 +1,8 @@
 -- A session's parts, its script, its stop and its exports, make its course.
-use Rattle.std.proofs.Common.{◌≡◌, ℕ, ◌≤◌, Bool, true, false, List, [], ◌∷◌, ◌++◌, map, Option, Some, None, Result, Ok, Err, ◌⊎◌, inl, inr, refl, sym, ap, subst, ◌∙◌, arith}
+use Rattle.std.proofs.Common.{◌≡◌, ◌≤◌, Bool, List, [], ◌∷◌, ◌++◌, map, Option, Some, None, Result, Ok, Err, inl, inr, refl, sym, subst, ◌∙◌}
 use Rattle.std.specs.Prelude.{IsTrue}
 use Rattle.std.specs.List.{flat_map}
 use Rattle.std.specs.Option.{option_map}
-use Rattle.std.proofs.lemmas.List.{append-nil}
 use Rattle.tl_model.specs.Media.{Library}
 use Rattle.tl_model.specs.declared.journal.Act.{Act}
 use Rattle.tl_model.specs.declared.journal.Act.TheVariants as act
@@ -17,17 +16,14 @@ use Rattle.script_lang.specs.declared.out_line.OutLine.{OutLine}
 use Rattle.script_lang.specs.declared.script.BodyLine.{BodyLine}
 use Rattle.script_lang.specs.declared.script.Call.{Call}
 use Rattle.script_lang.specs.declared.script.Call.TheVariants as call
-use Rattle.play_head.specs.declared.halt.Halt.{Halt}
-use Rattle.play_head.specs.Carrying.{Carried, Carrier, CarriesAll, FinishesExports, carried_calls, carrier}
-use Rattle.play_head.specs.Playing.{Setting, Player, Played, AreWhole, HasSomeCalls, HasTurns, lines_of, rows_of}
-use Rattle.play_head.specs.PlayingScript.{PlaysLines, stop_of}
-use Rattle.play_head.specs.PlayingLine.{texts}
-use Rattle.play_head.specs.Putting.{GotAll}
+use Rattle.play_head.specs.Carrying.{Carried, CarriesAll, FinishesExports, carried_calls, carrier}
+use Rattle.play_head.specs.Playing.{Setting, Player, Played, AreWhole, HasSomeCalls, HasTurns, lines_of}
+use Rattle.play_head.specs.PlayingScript.{stop_of}
 use Rattle.play_head.proofs.Desks.{number-hears}
 use Rattle.play_head.proofs.Growing.{are_later}
 use Rattle.timeline_app.specs.Course.{Course, Halted, Program, Session, HasCause, IsBegun, IsOutputOf, LeaveAll, AreNumbered, RunsCourse, SaysBy, SaysRest, ShowsBy, course_rows, ended_export, course_calls, halted_lines, script_calls, stop_call}
 use Rattle.timeline_app.specs.Ending.{end_lines, final_status}
-use Rattle.timeline_app.proofs.Courses.{ScriptPart, calls_all, end_hears, heard_nothing, part_whole}
+use Rattle.timeline_app.proofs.Courses.{ScriptPart, calls_all, end_hears, heard_nothing}
 use Rattle.timeline_app.proofs.Speaking.{says_silent, says_then}
 
 -- ---- the calls of a line that was begun, whatever the caller hears later

@@ -20,6 +20,7 @@ use Rattle.edit_desk.specs.Desk.{DeskOf, IsDesk, Enters, state_of, heard}
 use Rattle.edit_desk.specs.Was.{Was}
 use Rattle.script_lang.specs.declared.out_line.OutLine.{OutLine}
 use Rattle.script_lang.specs.declared.script.BodyLine.{BodyLine}
+use Rattle.script_lang.specs.declared.script.Call.TheVariants as call
 use Rattle.play_head.specs.declared.halt.Halt.{Halt}
 use Rattle.play_head.specs.declared.halt.Halt.TheVariants as halt
 use Rattle.play_head.specs.declared.stop.Stop.{Stop}
@@ -154,11 +155,12 @@ module _ {M K F : Type 0} where
     pub owing : told.1 ≡ owed (state_of s.library (record d { seen = front }))
     pub full : d.fixed.limit < told.0 + told.1 + next_need left (state_of s.library (record d { seen = front }))
 
-  -- Why a line stopped after these calls, by what is seen of the store and of the sinks from the session's start to its end. Want of
-  -- memory is free.
+  -- Why a line stopped after these calls, by what is seen of the store and of the sinks from the session's start to its end. Only a
+  -- line of an edit list stops for the store, before its call. Want of memory is free.
   abbrev pub IsCause : Setting M F → (old new : Player M K) → List (CallOf F) × Halted F → Halt → Type 0
   IsCause s old new (calls, h) (halt.Store fault) =
       FetchHasCause s.tells.store old.store new.store (file_wanted h.played.line.call) (Err fault) × (fault ≡ fetching.NoMemory → ⊥)
+      × ((file : List ℕ) × (h.played.line.call ≡ call.Edl file)) × (h.played.calls ≡ [])
   IsCause s old new (calls, h) halt.Screen = Rose old.screen.faults new.screen.faults
   IsCause s old new (calls, h) halt.Out = Rose old.out.faults new.out.faults
   IsCause s old new (calls, h) halt.NoMemory = Unit {0}

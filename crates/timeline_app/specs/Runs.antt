@@ -1,10 +1,10 @@
 -- What a run does, by its words, of the outside before and after it: it says how the program is used; or what keeps its session from
 -- starting; or it plays the session.
-use Rattle.std.specs.Prelude.{◌≡◌, ◌⊎◌, ℕ, Bool, false, List, [], ◌∷◌, Option, Result, Ok, Err}
+use Rattle.std.specs.Prelude.{◌≡◌, ◌⊎◌, ℕ, Bool, false, List, [], ◌∷◌, Option, Result}
 use Rattle.pic_planes.specs.Picture.{Image}
 use Rattle.tl_model.specs.declared.journal.Entry.{Entry}
 use Rattle.tl_ports.specs.declared.fault.PutFault.{PutFault}
-use Rattle.tl_ports.specs.Seen.{Outside, SinkSeen, StoreSeen, Telling}
+use Rattle.tl_ports.specs.Seen.{Outside, SinkSeen, Telling}
 use Rattle.edit_desk.specs.Desk.{DeskOf}
 use Rattle.clip_store.specs.Library.{LibraryOf}
 use Rattle.clip_store.specs.Render.{library_of}

@@ -1,4 +1,3 @@
-use Rattle.std.proofs.Common.{List, Option}
 use Rattle.play_head.specs.Playing.{player}
 use Rattle.play_head.specs.PlayingScript.{setting_of}
 use Rattle.timeline_app.proofs.Unstopped.{script_goes}

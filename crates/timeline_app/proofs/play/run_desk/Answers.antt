@@ -1,4 +1,4 @@
-use Rattle.std.proofs.Common.{List, Result, sym, ap, subst, ◌∙◌}
+use Rattle.std.proofs.Common.{List, Result, ap, subst, ◌∙◌}
 use Rattle.std.specs.List.{flat_map}
 use Rattle.pic_planes.specs.Picture.{Image}
 use Rattle.tl_model.specs.declared.journal.Entry.{Entry}
@@ -6,7 +6,7 @@ use Rattle.tl_ports.specs.declared.fault.PutFault.{PutFault}
 use Rattle.play_head.specs.Playing.{player}
 use Rattle.play_head.specs.PlayingScript.{setting_of}
 use Rattle.timeline_app.specs.Course.{Program, Session, SaysRest}
-use Rattle.timeline_app.specs.Ending.{entry_endings, entry_lines, final_status, said_by, stop_in}
+use Rattle.timeline_app.specs.Ending.{entry_endings, entry_lines, final_status, stop_in}
 use Rattle.timeline_app.proofs.Finished.{has_run}
 use Rattle.timeline_app.proofs.play.run_desk.Goals as goal
 
