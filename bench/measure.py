@@ -1,4 +1,4 @@
-"""Time and peak memory of commands, for the measurements of this folder."""
+"""Time, processor time and peak memory of commands, for the measurements of this folder."""
 
 import os
 import subprocess
@@ -16,10 +16,11 @@ from tools import PROGRAM  # noqa: E402
 
 
 class Cost(NamedTuple):
-    """Seconds on the clock, and bytes at the peak."""
+    """Seconds on the clock, bytes at the peak, and seconds of processor time."""
 
     wall: float
     memory: int
+    processor: float = 0.0
 
 
 def call(words: List[str]):
@@ -44,13 +45,16 @@ def measure(words: List[str], target: Optional[str] = None, status=0) -> Cost:
     if child.returncode != status or target and not (WORK / target).exists():
         raise SystemExit(f"{' '.join(words)} failed with status {child.returncode}")
     kibibytes = int(told.read_text()) if GNU_TIME.exists() else used.ru_maxrss
-    return Cost(wall, kibibytes * 1024)
+    return Cost(wall, kibibytes * 1024, used.ru_utime + used.ru_stime)
 
 
 def best(words: List[str], target: Optional[str] = None, status=0, rounds=3) -> Cost:
-    """The least time and the least peak of some runs."""
-    runs = [measure(words, target, status) for _ in range(rounds)]
-    return Cost(min(it.wall for it in runs), min(it.memory for it in runs))
+    """The least times and the least peak of some runs."""
+    return least([measure(words, target, status) for _ in range(rounds)])
+
+
+def least(runs: List[Cost]) -> Cost:
+    return Cost(*(min(parts) for parts in zip(*runs)))
 
 
 def warm(path: Path):

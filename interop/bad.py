@@ -1,13 +1,10 @@
-"""Bad input: scripts, clips, names and outputs that the program must answer with its named line and status,
-leaving every other file as it was. Beside them stand odd input that it must take.
-
-What a line says of a faulty script is the word `Later` while the program reads one form of script alone: WHY_SCRIPT
-below.
+"""Bad input: scripts, clips, records, packets, names and outputs that the program must answer with its named line and status,
+leaving every other file as it was. Beside them stands odd input that it must take.
 """
 
 import shutil
 from pathlib import Path
-from typing import Dict, NamedTuple, Optional, Sequence
+from typing import Dict, NamedTuple, Optional, Sequence, Tuple
 
 import clips
 import reader
@@ -15,10 +12,9 @@ from refused import cuts, refused_files
 from report import Report, differs
 from taken import other_records, taken_files
 from tools import PROGRAM, changed, done, run, script, sums_of, timeline
-from variants import Builder
+from variants import Builder, bitmap
 from written import written_file
 
-WHY_SCRIPT = "Later"
 USAGE = "usage: timeline SCRIPT [--workers N] [--cache N] [--journal N]\n"
 REFUSED = "refused OutsideClip\nrefused EmptyTimeline\n"
 NOT_WRITTEN = "ok 3\nasked 1\nexport 1 sink\n"
@@ -84,8 +80,8 @@ class Ground:
         report.check(it.name, faults)
 
 
-def faulty(name: str, line: int, text: bytes) -> Try:
-    return Try(f"script {name}", f"fault line {line} {WHY_SCRIPT}\n", 3, {"s": text})
+def faulty(name: str, line: int, why: str, text: bytes) -> Try:
+    return Try(f"script {name}", f"fault line {line} {why}\n", 3, {"s": text})
 
 
 def taken(name: str, text: bytes) -> Try:
@@ -106,36 +102,65 @@ def changed_line(line: int, text: bytes) -> bytes:
 
 
 def scripts():
+    yield from (faulty(name, line, why, text) for name, line, why, text in faulty_scripts())
+    for name, (out, text) in odd_scripts().items():
+        writes = "o.mkv" if "done" in out else None
+        yield Try(f"script {name}", out, 0, {"s": text}, writes=writes)
     good = script(length=FRAMES, rate=RATE)
-    wrong_lines = {
-        "rate of 0": (1, b"rate 0"),
-        "rate of 241": (1, b"rate 241"),
-        "rate of no number": (1, b"rate fast"),
-        "clip without a file": (2, b"clip A"),
-        "clip named black": (2, b"clip black a.mkv"),
-        "format as another name": (3, b"format as B"),
-        "insert of another name": (4, b"insert 0 B 0 3"),
-        "insert of no frames": (4, b"insert 0 A 0 0"),
-        "insert of 1,000,001 frames": (4, b"insert 0 A 0 1000001"),
-        "insert at a place that isn't 0": (4, b"insert 1 A 0 3"),
-        "insert with a word too many": (4, b"insert 0 A 0 3 3"),
-        "another command": (4, b"want 0 3"),
-        "export without a file": (5, b"export"),
-        "line after the last": (6, b"undo"),
-        "line that isn't UTF-8": (2, b"clip A \xff.mkv"),
-        "name that isn't UTF-8": (5, b"export \xc3.mkv"),
-        "words of zeros": (1, bytes(20)),
-    }
-    yield from (faulty(name, line, changed_line(line, text)) for name, (line, text) in wrong_lines.items())
-    yield faulty("of no bytes", 1, b"")
-    yield faulty("of one line", 2, b"rate 25\n")
-    yield faulty("without its last line", 5, b"".join(good.splitlines(True)[:4]))
-    yield faulty("of 16 MiB in one word", 1, b"x" * SCRIPT_LIMIT)
     yield Try("script of 16 MiB and one byte", "store s TooLarge\n", 4, {"s": padded(SCRIPT_LIMIT + 1)})
     yield taken("of 16 MiB", padded(SCRIPT_LIMIT))
     yield taken("with CR LF line ends", good.replace(b"\n", b"\r\n"))
     yield taken("without its last line end", good[:-1])
     yield taken("with blanks and tabs about its words", good.replace(b" ", b" \t ").replace(b"\n", b" \n"))
+    yield taken("with comments and blank lines", b"#\xff\n\n" + good.replace(b"\n", b"\n \t\n# format\n"))
+
+
+def faulty_scripts():
+    """A name, the line and its fault, worked out by hand from docs/SCRIPT.md, and the script."""
+    changed_lines = {
+        "rate of 0": (1, "Number", b"rate 0"),
+        "rate of 241": (1, "Number", b"rate 241"),
+        "rate of no number": (1, "Number", b"rate fast"),
+        "clip without a file": (2, "Count", b"clip A"),
+        "clip named black": (2, "SameName", b"clip black a.mkv"),
+        "clip with a drop-frame timecode": (2, "Timecode", b"clip A a.mkv 00:00:00;00"),
+        "format as another name": (3, "UnknownClip", b"format as B"),
+        "format of two words": (3, "Count", b"format as"),
+        "format whose grid is too wide": (3, "Format", b"format 2 2 grey range 3 1"),
+        "insert of no frames": (4, "Number", b"insert 0 A 0 0"),
+        "insert of 1,000,001 frames": (4, "Number", b"insert 0 A 0 1000001"),
+        "insert with a word too many": (4, "Count", b"insert 0 A 0 3 3"),
+        "insert at a place with a sign": (4, "Number", b"insert -1 A 0 3"),
+        "a second rate": (4, "Order", b"rate 25"),
+        "a clip behind the format": (4, "Order", b"clip B a.mkv"),
+        "a command in capital letters": (4, "Word", b"Insert 0 A 0 3"),
+        "export without a file": (5, "Count", b"export"),
+        "export onto a clip's file": (5, "SameExport", b"export a.mkv"),
+        "line that isn't UTF-8": (2, "Utf8", b"clip A \xff.mkv"),
+        "name that isn't UTF-8": (5, "Utf8", b"export \xc3.mkv"),
+        "words of zeros": (1, "Word", bytes(20)),
+        "byte order mark": (1, "Word", b"\xef\xbb\xbfrate 25"),
+    }
+    yield from ((name, line, why, changed_line(line, text)) for name, (line, why, text) in changed_lines.items())
+    yield "of no bytes", 1, "Order", b""
+    yield "of one line", 2, "Order", b"rate 25\n"
+    yield "without a format", 3, "Order", b"rate 25\nclip A a.mkv\n"
+    yield "of 16 MiB in one word", 1, "Word", b"x" * SCRIPT_LIMIT
+    yield "of 100,001 lines", 100_001, "Limit", script(length=FRAMES, rate=RATE) + b"\n" * 99_996
+
+
+def odd_scripts() -> Dict[str, Tuple[str, bytes]]:
+    """Scripts without a fault, and what they print."""
+    good = script(length=FRAMES, rate=RATE)
+    empty = "refused EmptyTimeline\n"
+    return {
+        "with an insert of another name": (f"refused NoClip\n{empty}", changed_line(4, b"insert 0 B 0 3")),
+        "with an insert past the end": (f"refused PastEnd\n{empty}", changed_line(4, b"insert 1 A 0 3")),
+        "with a want of nothing": (f"past 0\n{empty}", changed_line(4, b"want 0 3")),
+        "with a line after its export": (f"ok {FRAMES}\nasked 1\nok 0\nexport 1 done {FRAMES}\n", good + b"undo\n"),
+        "without an export": (f"ok {FRAMES}\n", b"".join(good.splitlines(True)[:4])),
+        "of a header alone": ("", b"".join(good.splitlines(True)[:3])),
+    }
 
 
 def words():
@@ -144,6 +169,16 @@ def words():
     yield Try("a script that isn't there", "store nowhere Missing\n", 4, words=("nowhere",))
     yield Try("a script that is a folder", "store sub Failed\n", 4, words=("sub",))
     yield Try("a script in a folder", done(FRAMES), 0, {"sub/s": script()}, words=("sub/s",), writes="o.mkv")
+    yield from option_words()
+
+
+def option_words():
+    """Options within their bounds, at their ends and past them."""
+    for given in ("--workers 0", "--workers 16", "--cache 1", "--cache 4096", "--journal 16", "--journal 4000000"):
+        yield Try(f"words s {given}", done(FRAMES), 0, words=("s", *given.split()), writes="o.mkv")
+    past = ("--workers 17", "--cache 0", "--cache 4097", "--journal 15", "--journal 4000001")
+    for given in (*past, "--cache", "--cache 1 --cache 2", "--speed 1"):
+        yield Try(f"words s {given}", USAGE, 2, words=("s", *given.split()))
 
 
 def names():
@@ -168,6 +203,9 @@ def clip_files(ground: Ground):
     for name, (data, record) in other_records(ground.clip).items():
         export = ground.written(RATE, record)
         yield Try(f"clip taken: {name}", done(FRAMES), 0, {"a.mkv": data}, writes="o.mkv", export=export)
+    short = Builder(ground.clip)
+    data = short.file(short.fourcc(bitmap(41, short.record)))
+    yield Try("clip whose record has one byte: FOURCC, biSize 41", "fault line 2 record Short\n", 3, {"a.mkv": data})
     for kind, files in refused_clips(ground).items():
         for name, data in files.items():
             yield Try(f"clip {kind}: {name}", f"fault line 2 clip {kind}\n", 3, {"a.mkv": data})

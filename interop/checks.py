@@ -7,8 +7,10 @@ from pathlib import Path
 from typing import List
 
 from bad import check_bad_input
+from damaged_clips import check_damaged_clips
 from demo import check_demo
 from each_byte import check_each_byte
+from ends import check_ends
 from frames import check_frames, check_reader
 from good import check_clips
 from ids import check_ids
@@ -17,8 +19,10 @@ from real import check_real
 from report import Report
 from script_texts import check_scripts
 from segments import check_segments
+from sessions import check_sessions
 from texts import check_lists
 from tools import HERE
+from whole_texts import check_texts
 
 # The proved program that reads edit lists and scripts as `texts` and `script_texts` say, where it is built.
 TEXT_READER = HERE.parent / "crates" / "texts_check" / "out" / "texts_check"
@@ -35,6 +39,10 @@ PARTS = {
     "frames": check_frames,
     "lists": lambda report, work: check_edit_lists(report),
     "scripts": lambda report, work: check_scripts(report, reader_of("script")),
+    "texts": check_texts,
+    "damaged": check_damaged_clips,
+    "ends": check_ends,
+    "sessions": check_sessions,
 }
 
 

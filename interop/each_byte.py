@@ -1,14 +1,17 @@
 """Small files cut at each byte, and with each byte changed in turn: a named fault or a clip, as the rules have it.
 
-What is wanted is what reader.py says of each file, and for the fronts of an export also a table worked out by hand.
+What is wanted is what the readers of this folder say of each file, its record and its packets, and for the fronts of an export also a
+table worked out by hand.
 """
 
 from concurrent.futures import ThreadPoolExecutor
 from pathlib import Path
-from typing import Dict, Iterator, List, Optional, Tuple
+from typing import Dict, Iterator, List, NamedTuple, Optional, Tuple
 
 import clips
+import ffv1
 import reader
+from ffv1_record import RecordFault, read_record
 from mkv import AUDIO_TRACK, KEY, Id, ebml_head, element, master, simple_block, unsigned
 from report import Report, differs
 from tools import BUILT, done, script, timeline
@@ -50,15 +53,40 @@ def odd_file(it: Builder) -> bytes:
     )
 
 
-def wanted_of(data: bytes) -> Tuple[str, int, Optional[bytes]]:
-    """What the program prints of a clip, ends with, and exports."""
+class Wanted(NamedTuple):
+    """What the program prints of a clip and ends with, and the export, whole or what it begins with."""
+
+    out: str
+    status: int
+    export: Optional[bytes] = None
+    is_whole: bool = True
+
+
+def wanted_of(data: bytes) -> Wanted:
     try:
         clip = reader.read_clip(data)
+        parameters = read_record(clip.record)
     except reader.Refused as fault:
-        return f"fault line 2 clip {fault.kind}\n", 3, None
+        return Wanted(f"fault line 2 clip {fault.kind}\n", 3)
+    except RecordFault as fault:
+        return Wanted(f"fault line 2 record {fault}\n", 3)
+    if not ffv1.suits(parameters, clip.width, clip.height):
+        return Wanted("fault line 2 Slices\n", 3)
     if len(clip.blocks) < FRAMES:
-        return PAST, 0, None
-    return done(FRAMES), 0, written_file(clip.record, clip.width, clip.height, RATE, clip.packets()[:FRAMES])
+        return Wanted(PAST, 0)
+    packets = clip.packets()[:FRAMES]
+    export = lambda length: written_file(clip.record, clip.width, clip.height, RATE, packets[:length])
+    for at, packet in enumerate(packets):
+        kind = ffv1.answer(parameters, clip.width, clip.height, packet)[0]
+        if kind != "Ok":
+            return Wanted(f"ok {FRAMES}\nasked 1\nexport 1 fault {at} A {at} {kind}\n", 7, export(at), False)
+    return Wanted(done(FRAMES), 0, export(FRAMES))
+
+
+def is_export(made: Optional[bytes], wanted: Wanted) -> bool:
+    if made is None or wanted.is_whole:
+        return made == wanted.export
+    return wanted.export is not None and wanted.export.startswith(made)
 
 
 def fault_of(folder: Path, name: str, data: bytes) -> str:
@@ -67,10 +95,10 @@ def fault_of(folder: Path, name: str, data: bytes) -> str:
     export.unlink(missing_ok=True)
     (folder / "a.mkv").write_bytes(data)
     ran = timeline(["s"], folder, BUILT)
-    out, status, wanted = wanted_of(data)
+    wanted = wanted_of(data)
     made = export.read_bytes() if export.exists() else None
-    faults = [differs("the output", ran.out, out), differs("the status", ran.status, status), ran.err]
-    faults.append("" if made == wanted else "the export isn't the right one")
+    faults = [differs("the output", ran.out, wanted.out), differs("the status", ran.status, wanted.status), ran.err]
+    faults.append("" if is_export(made, wanted) else "the export isn't the right one")
     return ", ".join([name, *faults]) if any(faults) else ""
 
 

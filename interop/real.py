@@ -13,6 +13,7 @@ import reader
 from good import check_cut, packet_faults
 from mkv import Id
 from report import Report, differs
+from session_clips import open_sizes
 from tools import changed, ffmpeg, frames_of, has_encoder, mkvmerge, script, sums_of, timeline
 
 FRAMES, LENGTH, RATE = 30, 26, 25
@@ -98,14 +99,8 @@ def having(it: Bench, shape: str, make: Callable[[], None]) -> Callable[[], None
 
 
 def opened(it: Bench, make: Callable[[], None]):
-    """Spells the sizes of a file's Clusters as unknown, as other programs do that write to a pipe."""
     make()
-    data = bytearray((it.folder / "a.mkv").read_bytes())
-    segment = reader.first(reader.elements(data, 0, len(data), reader.FILE)[0], Id.SEGMENT)
-    for cluster in reader.of_id(segment.children, Id.CLUSTER):
-        width = cluster.start - cluster.at - 4
-        data[cluster.at + 4 : cluster.start] = ((2 << 7 * width) - 1).to_bytes(width, "big")
-    (it.folder / "a.mkv").write_bytes(data)
+    open_sizes(it.folder / "a.mkv")
 
 
 def by_ffmpeg(it: Bench) -> Dict[str, Callable[[], None]]:
@@ -225,6 +220,8 @@ def refused(it: Bench):
     if has_encoder("libvpx"):
         yield "a WebM", "DocType", encoded("libvpx", "-f", "webm")
         yield "a WebM to a pipe", "DocType", encoded("libvpx", "-f", "webm", "-live", 1)
+    for level in (0, 1):
+        yield f"FFV1 of version {level}", "NoPrivate", encoded("ffv1", "-level", level)
     yield "sound alone", "NoTrack", lambda: it.by_ffmpeg("-i", "sound.flac", "-c", "copy")
     yield "subtitles alone", "NoTrack", lambda: it.merged("words.srt")
     yield "an empty file", "Ebml", put(b"")
@@ -233,6 +230,33 @@ def refused(it: Bench):
     yield "a picture that lacks its last byte", "Ebml", put(whole[:-1])
     yield "the first half of a picture", "Ebml", put(whole[: len(whole) // 2])
     yield "a picture that lacks its first byte", "Ebml", put(whole[1:])
+
+
+def refused_records(it: Bench):
+    """FFV1 that archives have too, and that isn't read: its name, the fault's name, and how it is made."""
+    ffv1 = ["-c:v", "ffv1", "-level", 3, "-g", 1, "-slices", 4, "-threads", 1]
+    of = lambda pixels, *more: lambda: it.by_ffmpeg(*PICTURE, "-pix_fmt", pixels, *ffv1, *more)
+    yield "ten bits", "Depth", of("yuv422p10le")
+    yield "sixteen bits of grey", "Depth", of("gray16le")
+    yield "RGB", "Color", of("bgr0")
+    yield "an alpha plane", "ExtraPlane", of("yuva420p")
+    yield "two passes", "InitialStates", lambda: two_passes(it)
+
+
+def two_passes(it: Bench):
+    words = [*PICTURE, *FFV1, "-coder", 1, "-passlogfile", "log"]
+    it.by_ffmpeg(*words, "-pass", 1, "-f", "null", to="-")
+    it.by_ffmpeg(*words, "-pass", 2)
+
+
+def check_other_frames(report: Report, it: Bench):
+    """A clip in which not each frame is a key frame: the first can be exported alone, the second is told."""
+    it.by_ffmpeg(*PICTURE, *FFV1, "-g", 12)
+    for length, end, status in ((1, "done 1", 0), (2, "fault 1 A 1 NotKey", 7)):
+        (it.folder / "s").write_bytes(script(length=length))
+        ran = timeline(["s"], it.folder)
+        said = differs("the output", ran.out, f"ok {length}\nasked 1\nexport 1 {end}\n")
+        report.check(f"-g 12, {length} of its frames", [said, differs("the status", ran.status, status), ran.err])
 
 
 def check_refused(report: Report, it: Bench, name: str, kind: str, make: Callable[[], None]):
@@ -245,7 +269,7 @@ def check_refused(report: Report, it: Bench, name: str, kind: str, make: Callabl
     (it.folder / "s").write_bytes(script(length=1))
     before = sums_of(it.folder)
     ran = timeline(["s"], it.folder)
-    said = differs("the output", ran.out, f"fault line 2 clip {kind}\n")
+    said = differs("the output", ran.out, f"fault line 2 {kind}\n")
     kept = changed(before, sums_of(it.folder))
     report.check(f"{name}: {kind}", [said, differs("the status", ran.status, 3), ran.err, kept])
 
@@ -259,4 +283,7 @@ def check_real(report: Report, work: Path):
     if has_encoder("libx264"):
         check_real_cut(report, "an H.264 track before the FFV1 one", it, lambda: two_codecs(it, "libx264"), "0:v:1")
     for name, kind, make in refused(it):
-        check_refused(report, it, name, kind, make)
+        check_refused(report, it, name, f"clip {kind}", make)
+    for name, kind, make in refused_records(it):
+        check_refused(report, it, name, f"record {kind}", make)
+    check_other_frames(report, it)

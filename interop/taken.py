@@ -237,8 +237,6 @@ def other_records(clip: Clip) -> Dict[str, Tuple[bytes, bytes]]:
     return {
         "a record of 65,536 bytes": (it.file(it.tracks(private=element(Id.CODEC_PRIVATE, [longest]))), longest),
         "FOURCC, a record of 65,536 bytes": (it.file(it.fourcc(bitmap(40, longest))), longest),
-        # A record of one byte says nothing, but what a record says isn't looked at.
-        "FOURCC, biSize 41": (it.file(it.fourcc(bitmap(41, it.record))), it.record[:1]),
         "FOURCC, a zero byte behind the record, biSize 40": (it.file(it.fourcc(bitmap(40, zero))), zero),
         "FOURCC, a zero byte behind the record, biSize 40 and n": (it.file(it.fourcc(bitmap(n, zero))), zero),
     }

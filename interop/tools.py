@@ -10,7 +10,7 @@ from typing import Dict, List, NamedTuple, Tuple
 HERE = Path(__file__).resolve().parent
 PROGRAM = os.environ.get("TIMELINE_PROGRAM") or str(HERE.parent / "timeline")
 # The program without its launcher, which looks at all sources before each run.
-BUILT = os.environ.get("TIMELINE_PROGRAM") or str(HERE.parent / "crates" / "timeline_app" / "out" / "timeline_app")
+BUILT = os.environ.get("TIMELINE_PROGRAM") or str(HERE.parent / "crates" / "timeline_main" / "out" / "timeline_main")
 SECONDS, TIMED_OUT = 60, 124
 
 
@@ -69,6 +69,15 @@ def frames_of(file: str, folder: Path, stream="0:v:0") -> Frames:
     said = ran.err.strip() or (f"ffmpeg ended with status {ran.status}" if ran.status else "")
     found = [hashes_in(it) if it.exists() else [] for it in (packets, pictures)]
     return Frames(*found, said)
+
+
+# What ffmpeg says of each slice whose aspect ratio is unknown: by RFC 9043 section 4.6 both its numbers are then 0.
+UNKNOWN_RATIO = re.compile(r"\[ffv1 @ \w+\] ignoring invalid SAR: 0/0\n(    Last message repeated \d+ times\n)?")
+
+
+def without_ratios(said: str) -> str:
+    """What ffmpeg says, but for that."""
+    return UNKNOWN_RATIO.sub("", f"{said}\n").strip()
 
 
 class Listed(NamedTuple):
