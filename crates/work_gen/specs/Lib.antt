@@ -1,0 +1,4 @@
+pub mod Picture
+pub mod Script
+pub mod Clip
+pub mod Answer
