@@ -3,6 +3,7 @@
 
 mod clip;
 mod fault;
+mod frames;
 mod make;
 mod pictures;
 mod script;
