@@ -19,7 +19,6 @@ use tl_model::EncodeFault;
 use tl_ports::Vault;
 
 /// Writes the clip of so many frames into the begun file, which is empty.
-#[tactic(auto, using(clip_store::proofs::DefaultBytes::default_bytes_few))]
 pub(crate) fn write_clip<V: Vault>(
     alloc: Global,
     coding: &Record,
