@@ -10,3 +10,6 @@ mod script;
 
 pub use fault::GenerateFault;
 pub use make::{Generated, generate};
+
+#[cfg(test)]
+mod tests;
