@@ -8,7 +8,8 @@ use tl_ports::{MemSink, MemVault};
 
 const USAGE: &str = "usage: timeline SCRIPT [--workers N] [--cache N] [--journal N]\n";
 
-const SCRIPT: &str = "rate 25\nclip A a.mkv\nformat as A\ninsert 0 A 0 3\nwant 0 2\nwork 2\nplay 0\nplay 1\n";
+const SCRIPT: &str =
+    "rate 25\nclip A a.mkv\nformat as A\ninsert 0 A 0 3\nwant 0 2\nwork 2\nplay 0\nplay 1\n";
 
 /// Words, the status, and the lines.
 #[rattlefmt::skip]
