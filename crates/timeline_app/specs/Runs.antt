@@ -5,6 +5,7 @@ use Rattle.pic_planes.specs.Picture.{Image}
 use Rattle.tl_model.specs.declared.journal.Entry.{Entry}
 use Rattle.tl_ports.specs.declared.fault.PutFault.{PutFault}
 use Rattle.tl_ports.specs.Seen.{Outside, SinkSeen, Telling}
+use Rattle.render_core.specs.Calls.{own}
 use Rattle.edit_desk.specs.Desk.{DeskOf}
 use Rattle.clip_store.specs.Library.{LibraryOf}
 use Rattle.clip_store.specs.Render.{library_of}
@@ -65,13 +66,14 @@ pub record Unstarted (asked : Asked) (old new : Outside) (tells : Telling) (outc
   pub says : EndsEarly tells.out old.out new.out (head_line why, head_status why) outcome
   pub quiet : IsQuiet old new
 
--- The session was played.
+-- The session was played, by its one caller: each entry of the journal is of pass 0.
 pub record Ran (asked : Asked) (old new : Outside) (tells : Telling) (outcome : Outcome) : Type 0 where
   pub opening : Opening
   pub is : IsOpened (fetched_by tells.store old.store old.store) asked.script.now opening
   pub course : Course Image
   pub runs : RunsCourse (program_of opening old.store.file tells) (session_at (desk_at asked opening.library []) old)
       (session_at (desk_at asked opening.library outcome.journal) new) course outcome.status
+  pub alone : own 0 outcome.journal ≡ outcome.journal
 
 abbrev pub RunsAsked : Asked → (old new : Outside) → Telling → Outcome → Type 0
 RunsAsked asked old new tells outcome = Unstarted asked old new tells outcome ⊎ Ran asked old new tells outcome

@@ -4,6 +4,7 @@ ghost use Rattle.std.specs.Prelude.{◌≡◌, ◌≤◌, [], None, length};
 ghost use Rattle.std.specs.List.{flat_map};
 ghost use Rattle.tl_limits.specs.Limits.{max_clips};
 ghost use Rattle.pic_planes.specs.Picture.{Image};
+ghost use Rattle.render_core.specs.Calls.{own};
 ghost use Rattle.script_lang.specs.ScriptSound.{IsScript};
 ghost use Rattle.play_head.specs.Playing.{player};
 ghost use Rattle.play_head.specs.PlayingScript.{setting_of};
@@ -106,7 +107,7 @@ pub fn run_desk<M: Media<Frame = Picture> + Drop, T: Store, V: Vault, S: Sink, O
     requires idle { (V.seen vault.old).begun ≡ None }
     requires main { desk.fixed.number ≡ 0 }
     requires fresh { desk.seen ≡ [] }
-    ensures { (course : Course Image) × RunsCourse
+    ensures course { (course : Course Image) × RunsCourse
         (record {
           setting = setting_of M.library clips.now script.now.rate (T.seen store.old).file
               (record { store = T.tells; screen = S.tells; out = O.tells });
@@ -119,6 +120,7 @@ pub fn run_desk<M: Media<Frame = Picture> + Drop, T: Store, V: Vault, S: Sink, O
           vault = V.seen vault.new;
         })
         course result.status }
+    ensures alone { own 0 result.journal ≡ result.journal }
 {
     let playback = play_all(
         alloc, &mut desk, stopper, script, clips, store, vault, screen, out,
