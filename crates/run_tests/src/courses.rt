@@ -81,3 +81,20 @@ fn exported_bytes(rt: HostRuntime) -> Result<(), Fail> {
     expect_blocks(&rt, &file[cluster + 22..]);
     Ok(())
 }
+
+/// A dissolve of one frame from samples 0 to black, 16, has the weight 128: its samples are 8. Then comes black.
+#[test]
+fn dissolved_samples(rt: HostRuntime) -> Result<(), Fail> {
+    let alloc = rt.alloc();
+    let script =
+        "rate 25\nclip A a.mkv\nformat as A\ninsert 0 A 0 1\ninsert 1 black 0 2\ndissolve 1 1\nshow 1\nshow 2\n";
+    let mut store = store_of(alloc, script, &[])?;
+    let mut vault = MemVault::start(alloc, Vec::new(alloc));
+    let mut screen = MemSink::start(alloc, Vec::new(alloc));
+    let mut out = MemSink::start(alloc, Vec::new(alloc));
+    let words = vec![in alloc; String::from_str(alloc, "s")?]?;
+    run_alone(alloc, &words, &mut store, &mut vault, &mut screen, &mut out);
+    assert!(rt; out.bytes() == b"ok 1\nok 3\nok 3\nframe 1\nframe 2\n".as_slice());
+    assert!(rt; screen.bytes() == [8, 8, 8, 8, 16, 16, 16, 16].as_slice());
+    Ok(())
+}
