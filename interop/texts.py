@@ -233,6 +233,17 @@ def changed_lists(count: int) -> Iterator[Changed]:
         yield Changed(f"{text.name}, changed {number}", text.rate, content)
 
 
+def long_lists() -> Iterator[Changed]:
+    """Ten thousand events whose clips have a thousand names: alone, and with a fault in the last line."""
+    lines = ["TITLE: LONG\n"]
+    for number in range(10_000):
+        start, end = (f"{it // 3600:02}:{it // 60 % 60:02}:{it % 60:02}:00" for it in (number, number + 1))
+        lines.append(f"{number:06}  AX       V     C        {start} {end} {start} {end}\n* FROM CLIP NAME: {number % 1000}.mkv\n")
+    content = "".join(lines).encode()
+    yield Changed("10,000 events", 25, content)
+    yield Changed("10,000 events and a fault", 25, content + b"M2")
+
+
 # Checks
 
 
@@ -254,7 +265,7 @@ def check_lists(report: Report, command: Sequence[str] = (), count: int = CHANGE
         faults += [differs("the program's answer", said(command, text.data(), text.rate), text.wanted)] if command else []
         report.check(f"edit list, {text.name}", faults)
     faults, kinds = [], set()
-    for it in changed_lists(count):
+    for it in [*changed_lists(count), *long_lists()]:
         wanted = edl.answer(it.data(), it.rate)
         kinds.add(wanted.split()[2] if wanted.startswith("line ") else "taken")
         if command:

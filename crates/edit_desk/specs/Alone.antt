@@ -6,6 +6,7 @@ use Rattle.render_core.specs.declared.reply.Full.{Full}
 use Rattle.render_core.specs.declared.reply.Full.TheVariants as full
 use Rattle.render_core.specs.declared.reply.ShowReply.{ShowReply}
 use Rattle.render_core.specs.Board.{BoardOf, of_show}
+use Rattle.render_core.specs.Calls.{own}
 use Rattle.render_core.specs.Step.{Reply, Render}
 use Rattle.edit_desk.specs.Desk.{DeskOf, with_render}
 
@@ -19,6 +20,11 @@ at_board number kept b = record {
 -- Caller 0 has seen the whole journal.
 abbrev pub desk_of : {M : Type 0} → BoardOf M → DeskOf M (Unit {0})
 desk_of b = at_board 0 tt b
+
+-- The board notes this library, and each of its entries is caller 0's.
+pub record IsOwned {M : Type 0} (lib : M) (b : BoardOf M) : Type 0 where
+  pub noted : lib ≡ b.library
+  pub all : own 0 b.journal ≡ b.journal
 
 -- What was told, with the render of a recipe that is to be rendered. Only there can memory be wanting.
 abbrev pub Renders : {F : Type 0} → Library F → (told : Reply F) → Result (ShowReply F) Full → Type 0

@@ -4,6 +4,7 @@ ghost use Rattle.std.specs.Prelude.{◌≡◌, ◌≤◌, IfOk, []};
 ghost use Rattle.tl_limits.specs.Limits.{IsJournalLimit};
 ghost use Rattle.tl_model.specs.Media.{CanRender, outcome_of};
 ghost use Rattle.render_core.specs.Board.{AtRender, of_show};
+ghost use Rattle.render_core.specs.Calls.{own};
 ghost use Rattle.render_core.specs.Step.{picture_of};
 ghost use Rattle.edit_desk.specs.Desk.{DeskOf, IsDesk, state_of};
 ghost use Rattle.edit_desk.specs.Alone.{Renders};
@@ -26,15 +27,14 @@ pub struct Alone<M: Media + Drop, L: Lane> {
 }
 
 impl<M: Media + Drop, L: Lane> Model for Alone<M, L> {
-    ghost use Rattle.std.specs.Prelude.{◌≡◌};
     ghost use Rattle.edit_desk.specs.Desk.{DeskOf};
-    ghost use Rattle.edit_desk.specs.Alone.{desk_of};
+    ghost use Rattle.edit_desk.specs.Alone.{desk_of, IsOwned};
 
     ghost Value = { DeskOf M (Unit {0}) };
 
     ghost view = { λ a. desk_of a.board };
 
-    ghost invariant = { λ a. a.media ≡ a.board.library };
+    ghost invariant = { λ a. IsOwned a.media a.board };
 }
 
 impl<M: Media + Drop, L: Lane> Alone<M, L> {
@@ -63,9 +63,10 @@ impl<M: Media + Drop, L: Lane> Alone<M, L> {
         self.board.is_stopped()
     }
 
-    /// The journal, by move. It is legal, and within the limit.
+    /// The journal, by move. It is legal, within the limit, and each of its entries is caller 0's.
     pub fn finish(self) -> Journal
         ensures journal { result ≡ self.seen }
+        ensures own { own 0 self.seen ≡ self.seen }
         ensures known { IsDesk M.library self }
     {
         let Alone { media: _, board } = self;

@@ -8,8 +8,9 @@ use Rattle.ffv1_rice.specs.declared.runs.Step.{Step}
 use Rattle.ffv1_rice.specs.declared.runs.Step.TheVariants.{Zeros, Difference, AfterRun}
 use Rattle.ffv1_rice.specs.Bits.{Reading}
 use Rattle.ffv1_rice.specs.State as states
-use Rattle.ffv1_rice.specs.Runs.{Run, Source, Coding, source, coding, at_sample, zeros, after_run, stepped, next_step, difference_by, raised, sample_at}
-use Rattle.ffv1_golomb.specs.Ahead.{coding_ahead, IsInRun}
+use Rattle.ffv1_rice.specs.Runs.{Run, Source, Coding, source, coding, at_sample, zeros, after_run, stepped, next_step, difference_by, raised, sample_at, FitsLine}
+use Rattle.ffv1_rice.proofs.LineLemmas.{difference-step, after-step}
+use Rattle.ffv1_golomb.specs.Ahead.{coding_ahead, zeros_of, raising, IsInRun}
 
 abbrev run_with : Mode → ℕ → ℕ → Run
 run_with mode count index = record { mode = mode; count = count; index = index }
@@ -129,3 +130,21 @@ w32_fits z h = omega (arith, ints)
 
 pub w64_fits : (z : ℤ) → nat_abs z < 2147483648 → to_z w64 (of_z w64 z) ≡ z
 w64_fits z h = omega (arith, ints)
+
+-- ---- what a step does, of whatever kind it is
+pub zeros-by : (left x : ℕ) (step : Step) (s s' : Source) (all : List states.State) → next_step left left (x == 0) s ≡ (step, s') → 0 < zeros_of step →
+    (sample_at left x (coding s all) ≡ Some (pos 0, coding_ahead (zeros_of step - 1) s'.run all s'.reading)) × IsInRun s'.run.mode
+zeros-by left x (Zeros n) s s' all told some = first-zero left x n s s' all told some
+zeros-by left x Difference s s' all told some = absurd (omega arith)
+zeros-by left x AfterRun s s' all told some = absurd (omega arith)
+
+pub difference-by : (left x : ℕ) (step : Step) (s s' : Source) (all : List states.State) → next_step left left (x == 0) s ≡ (step, s') → FitsLine left step → zeros_of step ≡ 0 →
+    sample_at left x (coding s all) ≡ difference_by (raising step) x s' all
+difference-by left x (Zeros n) s s' all told fits none = absurd (omega (arith, none, fits.0))
+difference-by left x Difference s s' all told fits none = difference-step left x s s' all told
+difference-by left x AfterRun s s' all told fits none = after-step left x s s' all told
+
+pub raising_is : (step : Step) (z r : ℤ) → negsuc 127 ≤ℤ z → z ≤ℤ pos 127 → r ≡ raising step (to_z w32 (of_z w32 z)) → raising step z ≡ to_z w32 (of_z w32 r)
+raising_is (Zeros n) z r low high is = difference_fits z low high ∙ ap (λ (v : ℤ). to_z w32 (of_z w32 v)) (difference_fits z low high ∙ sym is)
+raising_is Difference z r low high is = difference_fits z low high ∙ ap (λ (v : ℤ). to_z w32 (of_z w32 v)) (difference_fits z low high ∙ sym is)
+raising_is AfterRun z r low high is = raised_is z r low high is

@@ -5,6 +5,7 @@ ghost use Rattle.ffv1_slice.specs.Area.{IsWithin};
 ghost use Rattle.ffv1_golomb.specs.Slice.{decoding, ReadsArea, OutOfRangeInArea};
 
 use crate::read_row::decode_row;
+use ffv1_predict::are_near;
 use ffv1_rice::{BitReader, OutOfRange, RunReader, VlcState};
 use ffv1_slice::Area;
 use pic_planes::Picture;
@@ -32,9 +33,10 @@ pub(crate) fn decode_rows<'a>(
 {
     above2.fill(0);
     above.fill(0);
+    let far = !are_near(tables);
     let mut run = RunReader::start();
     for y in area.y..bottom_of(area, picture) {
-        bits = decode_row(bits, &mut run, states, tables, above2, above, row)?;
+        bits = decode_row(bits, &mut run, states, tables, far, above2, above, row)?;
         picture.put_samples(area.plane, y, area.x, row);
         above2.copy_from_slice(above);
         above.copy_from_slice(row);

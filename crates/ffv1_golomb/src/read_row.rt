@@ -1,11 +1,11 @@
 //! A row of a slice's plane, read in Golomb-Rice mode. RFC 9043 sections 3.8.2 and 4.8.
-ghost use Rattle.std.specs.Prelude.{◌≡◌, ℕ, ◌+◌, ◌-◌, ◌<◌, ◌≤◌, ◌^◌, IfOk, OnErr, Some, None, length, nat_abs, pos, negsuc, ◌≤ℤ◌};
-ghost use Rattle.ffv1_rice.specs.Runs.{coding, source, sample_at, difference_by, raised};
-ghost use Rattle.ffv1_predict.specs.Near.{context};
+ghost use Rattle.std.specs.Prelude.{◌≡◌, ℕ, ◌+◌, ◌-◌, ◌<◌, ◌≤◌, ◌^◌, IfOk, OnErr, Some, None, length, nat_abs, pos, negsuc, ◌≤ℤ◌, false};
+ghost use Rattle.ffv1_rice.specs.Runs.{coding, source, sample_at, FitsLine};
+ghost use Rattle.ffv1_predict.specs.Near.{context, AreNear};
 ghost use Rattle.ffv1_predict.specs.Border.{rows};
 ghost use Rattle.ffv1_slice.specs.Reading.{ContextsFit};
 ghost use Rattle.ffv1_golomb.specs.Reading.{line, ReadsSample, ReadsRow, OutOfRangeInRow};
-ghost use Rattle.ffv1_golomb.specs.Ahead.{coding_ahead, IsInRun};
+ghost use Rattle.ffv1_golomb.specs.Ahead.{coding_ahead, zeros_of, raising, IsInRun};
 
 use ffv1_predict::{Left, Near};
 use ffv1_rice::{BitReader, OutOfRange, RunReader, Step, VlcState, raise};
@@ -36,25 +36,46 @@ fn read_difference(
     ensures fits { IfOk result (λ found. found.zeros < left) }
     ensures small { IfOk result (λ found. nat_abs found.difference < 256) }
 {
-    match run.next(bits, context == 0, left) {
-        Step::Zeros(count) => Ok(Found {
+    let step = run.next(bits, context == 0, left);
+    let count = zeros_of(step);
+    if count > 0 {
+        return Ok(Found {
             difference: 0,
             zeros: count - 1,
-        }),
-        Step::Difference => {
-            let difference = states[context].read(bits)?;
-            Ok(Found {
-                difference,
-                zeros: 0,
-            })
-        }
-        Step::AfterRun => {
-            let difference = states[context].read(bits)?;
-            Ok(Found {
-                difference: raise(difference),
-                zeros: 0,
-            })
-        }
+        });
+    }
+    let difference = states[context].read(bits)?;
+    Ok(Found {
+        difference: raise_by(step, difference),
+        zeros: 0,
+    })
+}
+
+// How many samples a step takes of a run.
+#[inline(always)]
+fn zeros_of(step: Step) -> u32
+    ensures zeros { result ≡ zeros_of step }
+    ensures few { (left : ℕ) → FitsLine left step → result ≤ left }
+{
+    match step {
+        Step::Zeros(count) => count,
+        Step::Difference => 0,
+        Step::AfterRun => 0,
+    }
+}
+
+// A difference that was read at a step.
+#[inline(always)]
+fn raise_by(step: Step, difference: i32) -> i32
+    requires least { negsuc 127 ≤ℤ difference }
+    requires most { difference ≤ℤ pos 127 }
+    ensures raised { result ≡ raising step difference }
+    ensures small { nat_abs result < 256 }
+{
+    match step {
+        Step::Zeros(_) => difference,
+        Step::Difference => difference,
+        Step::AfterRun => raise(difference),
     }
 }
 
@@ -72,10 +93,12 @@ fn read_sample(
     run: &mut RunReader,
     states: &mut [VlcState],
     tables: &[[i16; 256]; 5],
+    far: bool,
     near: Near,
     left: u32,
     zeros: u32,
 ) -> Result<Seen, OutOfRange>
+    requires far { far ≡ false → AreNear tables.now }
     requires fit { ContextsFit tables.now (length states.old) }
     requires some { 0 < left }
     requires short { left < 2 ^ 24 }
@@ -95,7 +118,7 @@ fn read_sample(
             zeros: zeros - 1,
         });
     }
-    let context = near.context(tables);
+    let context = near.context_by(tables, far);
     let found = read_difference(bits, run, states, context.unsigned_abs() as usize, left)?;
     Ok(Seen {
         sample: near.restored(context, i64::from(found.difference)),
@@ -103,16 +126,49 @@ fn read_sample(
     })
 }
 
-/// Reads the samples of a row below two others. `OutOfRange` comes exactly at the first sample whose residual is out of range.
+/// Reads the samples of a row below two others, by tables where the far neighbours count or that are flat for them. `OutOfRange`
+/// comes exactly at the first sample whose residual is out of range.
 pub(crate) fn decode_row<'a>(
-    mut bits: BitReader<'a>,
+    bits: BitReader<'a>,
     run: &mut RunReader,
     states: &mut [VlcState],
     tables: &[[i16; 256]; 5],
+    far: bool,
     above2: &[u8],
     above: &[u8],
     row: &mut [u8],
 ) -> Result<BitReader<'a>, OutOfRange>
+    requires far { far ≡ false → AreNear tables.now }
+    requires some { 0 < length row.old }
+    requires short { length row.old < 2 ^ 24 }
+    requires above2 { length above2.now ≡ length row.old }
+    requires above { length above.now ≡ length row.old }
+    requires fit { ContextsFit tables.now (length states.old) }
+    ensures ok { IfOk result (λ after. ReadsRow tables.now (rows above2.now above.now row.new)
+        (coding (source run.old bits.entry) states.old) (coding (source run.new after) states.new)) }
+    ensures out_of_range { OnErr result (OutOfRangeInRow tables.now (rows above2.now above.now row.new)
+        (coding (source run.old bits.entry) states.old)) }
+{
+    if far {
+        decode_row_by(bits, run, states, tables, true, above2, above, row)
+    } else {
+        decode_row_by(bits, run, states, tables, false, above2, above, row)
+    }
+}
+
+// The same, compiled once for each of the two.
+#[inline(always)]
+fn decode_row_by<'a>(
+    mut bits: BitReader<'a>,
+    run: &mut RunReader,
+    states: &mut [VlcState],
+    tables: &[[i16; 256]; 5],
+    far: bool,
+    above2: &[u8],
+    above: &[u8],
+    row: &mut [u8],
+) -> Result<BitReader<'a>, OutOfRange>
+    requires far { far ≡ false → AreNear tables.now }
     requires some { 0 < length row.old }
     requires short { length row.old < 2 ^ 24 }
     requires above2 { length above2.now ≡ length row.old }
@@ -124,15 +180,17 @@ pub(crate) fn decode_row<'a>(
         (coding (source run.old bits.entry) states.old)) }
 {
     run.start_line();
+    let mut here = *run;
     let mut left = Left::start(above2, above);
     let mut zeros = 0;
     for x in 0..row.len() {
         let near = left.near(above2, above, x);
         let rest = (row.len() - x) as u32;
-        let seen = read_sample(&mut bits, run, states, tables, near, rest, zeros)?;
+        let seen = read_sample(&mut bits, &mut here, states, tables, far, near, rest, zeros)?;
         row[x] = seen.sample;
         left = Left::after(near, seen.sample);
         zeros = seen.zeros;
     }
+    *run = here;
     Ok(bits)
 }

@@ -19,6 +19,13 @@ context tables n =
     quantized (table 0) n.l n.tl +ℤ quantized (table 1) n.tl n.t +ℤ quantized (table 2) n.t n.tr
     +ℤ quantized (table 3) n.ll n.l +ℤ quantized (table 4) n.tt n.t
 
+-- The tables of the two far neighbours are flat: no difference counts by them.
+abbrev pub IsFlat : List ℤ → Type 0
+IsFlat table = (a b : ℕ) → quantized table a b ≡ pos 0
+
+abbrev pub AreNear : List (List ℤ) → Type 0
+AreNear tables = IsFlat (slice_index_or tables 3 []) × IsFlat (slice_index_or tables 4 [])
+
 abbrev pub is_negative : ℤ → Bool
 is_negative (pos n) = false
 is_negative (negsuc n) = true

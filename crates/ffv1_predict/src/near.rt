@@ -1,8 +1,8 @@
 //! The neighbours of a sample. RFC 9043 sections 3.2 to 3.5.
-ghost use Rattle.std.specs.Prelude.{◌≡◌, ◌^◌, ◌<◌, pos, negsuc, ◌+ℤ◌, ◌-ℤ◌, ◌≤ℤ◌, nat_abs};
+ghost use Rattle.std.specs.Prelude.{◌≡◌, ◌^◌, ◌<◌, pos, negsuc, ◌+ℤ◌, ◌-ℤ◌, ◌≤ℤ◌, nat_abs, false};
 ghost use Rattle.std.specs.Int.{int_rem_euclid};
 ghost use Rattle.tl_base.specs.Arithmetic.{folded};
-ghost use Rattle.ffv1_predict.specs.Near.{predicted, context, quantized, turned, coded, IsRestored};
+ghost use Rattle.ffv1_predict.specs.Near.{predicted, context, quantized, turned, coded, IsFlat, AreNear, IsRestored};
 
 use tl_base::{fold8, median3};
 
@@ -32,6 +32,15 @@ impl Near {
     pub fn context(self, tables: &[[i16; 256]; 5]) -> i32
         ensures { result ≡ context tables.now self }
     {
+        self.context_by(tables, true)
+    }
+
+    /// The same, where it is told whether the two far neighbours count: they don't where their tables are flat.
+    #[inline(always)]
+    pub fn context_by(self, tables: &[[i16; 256]; 5], far: bool) -> i32
+        requires { far ≡ false → AreNear tables.now }
+        ensures { result ≡ context tables.now self }
+    {
         let [first, second, third, fourth, fifth] = tables;
         let above = sum(
             quantized(first, self.l, self.tl),
@@ -40,8 +49,8 @@ impl Near {
         );
         sum(
             above,
-            quantized(fourth, self.ll, self.l),
-            quantized(fifth, self.tt, self.t),
+            quantized_by(fourth, self.ll, self.l, far),
+            quantized_by(fifth, self.tt, self.t, far),
         )
     }
 
@@ -121,4 +130,14 @@ fn quantized(table: &[i16; 256], a: u8, b: u8) -> i32
     ensures small { nat_abs result < 2 ^ 16 }
 {
     i32::from(table[usize::from(a.wrapping_sub(b))])
+}
+
+// The same, where it is told whether the difference counts: by a flat table it doesn't.
+#[inline(always)]
+fn quantized_by(table: &[i16; 256], a: u8, b: u8, counts: bool) -> i32
+    requires { counts ≡ false → IsFlat table.now }
+    ensures entry { result ≡ quantized table.now a b }
+    ensures small { nat_abs result < 2 ^ 16 }
+{
+    if counts { quantized(table, a, b) } else { 0 }
 }

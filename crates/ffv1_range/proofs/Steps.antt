@@ -22,6 +22,13 @@ pub exponent_at-end : (n i : ℕ) (s : Source) → n ≤ i → exponent_at (n - 
 unfolding exponent_at
 exponent_at-end n i s h = let left : n - i ≡ 0 = omega arith in rw left refl
 
+-- the same of one of the first bits, whose place is told
+pub exponent_at_one : (i : ℕ) (s : Source) → i < 9 → bit_at_place s (1 + i) ≡ true → exponent_at (32 - i) i s ≡ exponent_at (32 - (i + 1)) (i + 1) (after_place s (1 + i))
+exponent_at_one i s h e = let place : min i 9 ≡ i = omega arith in subst (λ k. bit_at_place s (1 + k) ≡ true → exponent_at (32 - i) i s ≡ exponent_at (32 - (i + 1)) (i + 1) (after_place s (1 + k))) place (exponent_at-ones 32 i s (omega arith)) e
+
+pub exponent_at_zero : (i : ℕ) (s : Source) → i < 9 → bit_at_place s (1 + i) ≡ false → exponent_at (32 - i) i s ≡ (Some i, after_place s (1 + i))
+exponent_at_zero i s h e = let place : min i 9 ≡ i = omega arith in subst (λ k. bit_at_place s (1 + k) ≡ false → exponent_at (32 - i) i s ≡ (Some i, after_place s (1 + k))) place (exponent_at-zero 32 i s (omega arith)) e
+
 -- a magnitude down to its bit i
 pub magnitude_at-next : (i a : ℕ) (s : Source) → 0 < i → magnitude_at i a s ≡ magnitude_at (i - 1) (2 * a + (if bit_at_place s (22 + min (i - 1) 9) then 1 else 0)) (after_place s (22 + min (i - 1) 9))
 unfolding magnitude_at

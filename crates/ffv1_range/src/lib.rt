@@ -6,6 +6,8 @@
 
 mod cursor;
 mod law;
+mod read_bit;
+mod read_symbol;
 mod reader;
 mod states;
 mod transition;

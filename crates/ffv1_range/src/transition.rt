@@ -95,11 +95,27 @@ impl Transition {
         ensures kept { IsKept self.now result }
         ensures positive { 0 < state }
     {
-        if bit {
-            self.one[state as usize]
-        } else {
-            self.zero[state as usize]
-        }
+        self.states_after(bit)[state as usize]
+    }
+
+    /// A state that the table keeps: it is above 0.
+    #[inline(always)]
+    pub(crate) fn kept(&self, state: u8) -> u8
+        requires { IsKept self.now state }
+        ensures same { result ≡ state }
+        ensures positive { 0 < result }
+    {
+        let _states = self.states_after(true);
+        state
+    }
+
+    // The states after a bit, chosen without a branch.
+    #[inline(always)]
+    fn states_after(&self, bit: bool) -> &[u8; 256]
+        ensures next { (state : ℕ) → IsKept self.now state → slice_index result.now state ≡ next_state self.now state bit }
+        ensures sound { IsTransition self.now }
+    {
+        if bit { &self.one } else { &self.zero }
     }
 }
 

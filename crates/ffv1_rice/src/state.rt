@@ -66,7 +66,7 @@ impl VlcState {
 
     /// Reads the difference of a sample, from -128 to 127. `OutOfRange` comes exactly where the residual lies outside of -128 to
     /// 127; the state and the reader then stay as they were.
-    #[inline]
+    #[inline(always)]
     pub fn read(&mut self, bits: &mut BitReader) -> Result<i32, OutOfRange>
         ensures ok { IfOk result (λ d. difference_at self.old bits.old
             ≡ Some (record { value = d; state = self.new; reading = bits.new })) }
@@ -220,8 +220,7 @@ fn sum_up(tally: Tally, v: i32) -> Tally
 }
 
 // Half of each sum, rounded down.
-#[cold]
-#[inline(never)]
+#[inline(always)]
 #[tactic(auto, unfolding(crate::specs::State::halved))]
 fn half(tally: Tally) -> Tally
     requires full { tally.count ≡ 128 }

@@ -7,6 +7,7 @@ ghost use Rattle.ffv1_slice.specs.Slice.{decoding, ReadsArea, TooLongInArea};
 
 use crate::area::Area;
 use crate::range_row::decode_row;
+use ffv1_predict::are_near;
 use ffv1_range::{RangeReader, States, TooLong};
 use pic_planes::Picture;
 
@@ -36,8 +37,9 @@ pub(crate) fn decode_rows<'a>(
 {
     above2.fill(0);
     above.fill(0);
+    let far = !are_near(tables);
     for y in area.y..bottom_of(area, picture) {
-        reader = decode_row(reader, contexts, tables, above2, above, row)?;
+        reader = decode_row(reader, contexts, tables, far, above2, above, row)?;
         picture.put_samples(area.plane, y, area.x, row);
         above2.copy_from_slice(above);
         above.copy_from_slice(row);

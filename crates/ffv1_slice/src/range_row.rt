@@ -1,8 +1,8 @@
 //! A row of a slice's plane, read by the range coder. RFC 9043 section 4.8.
-ghost use Rattle.std.specs.Prelude.{◌≡◌, ℕ, ◌<◌, ◌≤◌, ◌^◌, IfOk, OnErr, List, All, length, nat_abs, None};
+ghost use Rattle.std.specs.Prelude.{◌≡◌, ℕ, ◌<◌, ◌≤◌, ◌^◌, IfOk, OnErr, List, All, length, nat_abs, None, false};
 ghost use Rattle.std.specs.Result.{result_ok};
 ghost use Rattle.ffv1_range.specs.Transition.{AllKept};
-ghost use Rattle.ffv1_predict.specs.Near.{context};
+ghost use Rattle.ffv1_predict.specs.Near.{context, AreNear};
 ghost use Rattle.ffv1_predict.specs.Border.{rows};
 ghost use Rattle.ffv1_slice.specs.Order.{InRow};
 ghost use Rattle.ffv1_slice.specs.Reading.{coding, difference_at, ReadsSample, TooLongInRow, ContextsFit};
@@ -33,8 +33,10 @@ fn read_sample(
     reader: &mut RangeReader,
     contexts: &mut [States],
     tables: &[[i16; 256]; 5],
+    far: bool,
     near: Near,
 ) -> Result<u8, TooLong>
+    requires far { far ≡ false → AreNear tables.now }
     requires fit { ContextsFit tables.now (length contexts.old) }
     requires kept { All (AllKept reader.old.table) contexts.old }
     ensures ok { IfOk result (λ sample. ReadsSample tables.now near sample
@@ -44,20 +46,53 @@ fn read_sample(
     ensures table { reader.new.table ≡ reader.old.table }
     ensures kept { All (AllKept reader.new.table) contexts.new }
 {
-    let context = near.context(tables);
+    let context = near.context_by(tables, far);
     let difference = read_difference(reader, contexts, context)?;
     Ok(near.restored(context, difference))
 }
 
-/// Reads the samples of a row below two others. `TooLong` comes exactly at the first difference whose symbol is too long.
+/// Reads the samples of a row below two others, by tables where the far neighbours count or that are flat for them. `TooLong` comes
+/// exactly at the first difference whose symbol is too long.
 pub(crate) fn decode_row<'a>(
-    mut reader: RangeReader<'a>,
+    reader: RangeReader<'a>,
     contexts: &mut [States],
     tables: &[[i16; 256]; 5],
+    far: bool,
     above2: &[u8],
     above: &[u8],
     row: &mut [u8],
 ) -> Result<RangeReader<'a>, TooLong>
+    requires far { far ≡ false → AreNear tables.now }
+    requires some { 0 < length row.old }
+    requires above2 { length above2.now ≡ length row.old }
+    requires above { length above.now ≡ length row.old }
+    requires fit { ContextsFit tables.now (length contexts.old) }
+    requires kept { All (AllKept reader.table) contexts.old }
+    ensures ok { IfOk result (λ after. InRow (ReadsSample tables.now) (rows above2.now above.now row.new) (length row.new)
+        (coding reader.entry contexts.old) (coding after contexts.new)) }
+    ensures too_long { OnErr result (TooLongInRow tables.now (rows above2.now above.now row.new) (coding reader.entry contexts.old)) }
+    ensures table { IfOk result (λ after. after.table ≡ reader.entry.table) }
+    ensures kept { IfOk result (λ after. All (AllKept after.table) contexts.new) }
+{
+    if far {
+        decode_row_by(reader, contexts, tables, true, above2, above, row)
+    } else {
+        decode_row_by(reader, contexts, tables, false, above2, above, row)
+    }
+}
+
+// The same, compiled once for each of the two.
+#[inline(always)]
+fn decode_row_by<'a>(
+    mut reader: RangeReader<'a>,
+    contexts: &mut [States],
+    tables: &[[i16; 256]; 5],
+    far: bool,
+    above2: &[u8],
+    above: &[u8],
+    row: &mut [u8],
+) -> Result<RangeReader<'a>, TooLong>
+    requires far { far ≡ false → AreNear tables.now }
     requires some { 0 < length row.old }
     requires above2 { length above2.now ≡ length row.old }
     requires above { length above.now ≡ length row.old }
@@ -72,7 +107,7 @@ pub(crate) fn decode_row<'a>(
     let mut left = Left::start(above2, above);
     for x in 0..row.len() {
         let near = left.near(above2, above, x);
-        let sample = read_sample(&mut reader, contexts, tables, near)?;
+        let sample = read_sample(&mut reader, contexts, tables, far, near)?;
         row[x] = sample;
         left = Left::after(near, sample);
     }

@@ -44,22 +44,22 @@ module _ {M K : Type 0} (library : M → Library Image) (clips : List (List ℕ 
   pub part_stored : (files : List ℕ → Option (List ℕ)) (old new : Player M K) (line : BodyLine) (why : Halt) → PlaysLine (setting_of library clips rate files tells) old new line (Err why) → why ≢ halt.Store fetching.NoMemory
   part_stored files old new line why w e = let part = subst (λ (x : Halt). PlaysPart (setting_of library clips rate files tells) old new line x) e w.0 in part.stops.2 refl
 
-  stopped_by : (old mid halted : Player M K) (after : SinkSeen) (body : List BodyLine) (i : ℕ) (line : BodyLine) (why : Halt) (r : Result Unit Stop) (silenced : Bool) → i < length body → line ≡ get_or body i line → PlaysLines (setting_of library clips rate old.store.file tells) old mid (take i body) → PlaysLine (setting_of library clips rate mid.store.file tells) mid halted line (Err why) → StopsBy tells.out halted.out after (line.call, why) (r, silenced) → PlaysScript (setting_of library clips rate old.store.file tells) old (record halted { out = after }) body (r, silenced)
-  stopped_by old mid halted after body i line why (Ok done) silenced within is f w h = absurd h
-  stopped_by old mid halted after body i line why (Err what) silenced within is f w h =
+  stopped_by : (old mid halted : Player M K) (after : SinkSeen) (body : List BodyLine) (i : ℕ) (line : BodyLine) (why : Halt) (r : Result Unit Stop) (silenced : Bool) → i < length body → line ≡ get_or body i line → PlaysLines (setting_of library clips rate old.store.file tells) old mid (take i body) → PlaysLine (setting_of library clips rate mid.store.file tells) mid halted line (Err why) → StopsBy tells.out halted.out after (line.call, why) (r, silenced) → halted.out.faults ≤ after.faults → PlaysScript (setting_of library clips rate old.store.file tells) old (record halted { out = after }) body (r, silenced)
+  stopped_by old mid halted after body i line why (Ok done) silenced within is f w h later = absurd h
+  stopped_by old mid halted after body i line why (Err what) silenced within is f w h later =
       let here = subst (λ (files : List ℕ → Option (List ℕ)). PlaysLine (setting_of library clips rate files tells) mid halted line (Err why)) f.lasts.files w in
       record {
         why = why;
         halted = halted;
         plays = record { front = take i body; line = line; rest = drop (i + 1) body; is = body_parts body i line within is; between = mid; plays = f; part = here.0; lasts = here.1 };
         says = h;
-        only = record { desk = refl; store = refl; screen = refl };
+        only = record { desk = refl; store = refl; screen = refl; later = later };
       }
 
   -- a line stopped the script
-  pub body_stops : (old mid : Player M K) (desk : DeskOf M K) (store : StoreSeen) (screen before after : SinkSeen) (body : List BodyLine) (i : ℕ) (line : BodyLine) (why : Halt) (r : Result Unit Stop) (silenced : Bool) → i < length body → line ≡ get_or body i line → PlaysLines (setting_of library clips rate old.store.file tells) old mid (take i body) → PlaysLine (setting_of library clips rate mid.store.file tells) mid (player desk store screen before) line (Err why) → StopsBy tells.out before after (line.call, why) (r, silenced) → PlaysScript (setting_of library clips rate old.store.file tells) old (player desk store screen after) body (r, silenced)
-  body_stops old mid desk store screen before after body i line why r silenced within is f w h =
-      stopped_by old mid (player desk store screen before) after body i line why r silenced within is f w h
+  pub body_stops : (old mid : Player M K) (desk : DeskOf M K) (store : StoreSeen) (screen before after : SinkSeen) (body : List BodyLine) (i : ℕ) (line : BodyLine) (why : Halt) (r : Result Unit Stop) (silenced : Bool) → i < length body → line ≡ get_or body i line → PlaysLines (setting_of library clips rate old.store.file tells) old mid (take i body) → PlaysLine (setting_of library clips rate mid.store.file tells) mid (player desk store screen before) line (Err why) → StopsBy tells.out before after (line.call, why) (r, silenced) → before.faults ≤ after.faults → PlaysScript (setting_of library clips rate old.store.file tells) old (player desk store screen after) body (r, silenced)
+  body_stops old mid desk store screen before after body i line why r silenced within is f w h later =
+      stopped_by old mid (player desk store screen before) after body i line why r silenced within is f w h later
 
   -- all lines were played
   pub body_ends : (old new : Player M K) (body : List BodyLine) (i : ℕ) → length body ≤ i → PlaysLines (setting_of library clips rate old.store.file tells) old new (take i body) → PlaysScript (setting_of library clips rate old.store.file tells) old new body (Ok tt, false)

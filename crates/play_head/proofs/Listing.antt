@@ -166,7 +166,7 @@ module _ {M K F : Type 0} (s : Setting M F) where
       let new : Player M K = record { desk = desk; store = after; screen = screen; out = out } in
       unbegun old new line file (halt.Store fault) is (hears_nothing s.library desk)
       (record { files = h.2; store = h.3; screen = omega arith; out = omega arith })
-      (nothing_all old new refl refl, subst (λ (c : Call). FetchHasCause s.tells.store before after (file_wanted c) (Err fault)) (sym is) h.0, h.1)
+      (nothing_all old new refl refl, subst (λ (c : Call). FetchHasCause s.tells.store before after (file_wanted c) (Err fault)) (sym is) h.0, h.1, (file, is), refl)
   unfetched desk before after screen out line file halt.NoMemory is h =
       let old : Player M K = record { desk = desk; store = before; screen = screen; out = out } in
       let new : Player M K = record { desk = desk; store = after; screen = screen; out = out } in

@@ -31,7 +31,7 @@ use Rattle.play_head.specs.declared.work.Worked.{Worked}
 use Rattle.play_head.specs.Halting.{halt_for}
 use Rattle.play_head.specs.Marking.{EndsWork, Marks, RefusesMark, MarksAndSays, SaysWork}
 use Rattle.play_head.specs.Playing.{Setting, Player, Played, HasTurns, HasReason, player, is_kept, kept, mark_call, act_line, lines_of, rows_given, rows_of}
-use Rattle.play_head.specs.PlayingLine.{PutsAll, PutsSome, Lasts, PlaysLine, output_of, texts}
+use Rattle.play_head.specs.PlayingLine.{PutsAll, PutsSome, Lasts, StopsLine, PlaysLine, output_of, texts}
 use Rattle.play_head.specs.Putting.{IsFront, GotAll, GotFront}
 use Rattle.play_head.specs.Saying.{Speaks, RefusedBy, place}
 use Rattle.play_head.specs.Work.{Turn, turn_calls, turns_calls, is_filed, filed_count, IsEndReply, IsTurn, AreTurns, EndsReleased, IsIdle}
@@ -145,33 +145,25 @@ module _ {M K F : Type 0} (s : Setting M F) (desk now : DeskOf M K) (store : Sto
   lasts_by : before.faults ≤ after.faults → Lasts (player desk store screen before) (player now store screen after)
   lasts_by h = record { files = refl; store = omega arith; screen = omega arith; out = h }
 
+  abbrev unmarked_played : Played F
+  unmarked_played = record { line = record { n = n; call = call.Work turns }; list = Ok []; calls = [] }
+
+  -- the mark wasn't made, and nothing was put
+  unmarked : (why : Halt) → Hears s.library desk now [] → after ≡ before → StopsLine s (player desk store screen before) (player now store screen after) (unmarked_played, act.Mark turns ∷ []) why → Plays (Err why)
+  unmarked why h same stops = (
+    record { played = unmarked_played; is = refl; left = act.Mark turns ∷ []; begun = inl (refl, refl); list = inl refl; hears = h; stops = stops },
+    lasts_by (let e = ap (λ (o : SinkSeen). o.faults) same in omega (arith, e)),
+  )
+
+  nothing_put : after ≡ before → GotAll s.tells.out before after []
+  nothing_put same = subst (λ (o : SinkSeen). GotAll s.tells.out before o []) (sym same) (got_nothing s.tells.out before)
+
   refused : (why : Full) → RefusedBy s.library (place desk before) (place now after) (act.Mark turns) why → Plays (Err (halt_for why))
   refused full.NoMemory h =
-      let all : GotAll s.tells.out before after [] = subst (λ (o : SinkSeen). GotAll s.tells.out before o []) (sym h.1) (got_nothing s.tells.out before) in (
-        record {
-          played = record { line = record { n = n; call = call.Work turns }; list = Ok []; calls = [] };
-          is = refl;
-          left = act.Mark turns ∷ [];
-          begun = inl (refl, refl);
-          list = inl refl;
-          hears = h.0.0;
-          stops = inl ((got_front s.tells.out before after [] all, front_nothing s.tells.screen screen []), all);
-        },
-        lasts_by (let e = ap (λ (o : SinkSeen). o.faults) h.1 in omega (arith, e)),
-      )
+      let all = nothing_put h.1 in
+      unmarked halt.NoMemory h.0.0 h.1 (inl ((got_front s.tells.out before after [] all, front_nothing s.tells.screen screen []), all))
   refused (full.JournalFull len owing) h =
-      let all : GotAll s.tells.out before after [] = subst (λ (o : SinkSeen). GotAll s.tells.out before o []) (sym h.1) (got_nothing s.tells.out before) in (
-        record {
-          played = record { line = record { n = n; call = call.Work turns }; list = Ok []; calls = [] };
-          is = refl;
-          left = act.Mark turns ∷ [];
-          begun = inl (refl, refl);
-          list = inl refl;
-          hears = h.0.0;
-          stops = ((all, got_nothing s.tells.screen screen), h.0.1);
-        },
-        lasts_by (let e = ap (λ (o : SinkSeen). o.faults) h.1 in omega (arith, e)),
-      )
+      unmarked (halt.JournalFull len owing) h.0.0 h.1 ((nothing_put h.1, got_nothing s.tells.screen screen), h.0.1)
 
   module _ (worked : Worked) (m : Marks s.library desk now turns worked) where
     abbrev lib : Library F

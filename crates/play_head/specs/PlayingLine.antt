@@ -72,10 +72,11 @@ module _ {M K F : Type 0} where
   PutsSome s old new output = GotFront s.tells.out old.out new.out (texts output.lines)
       × GotFront s.tells.screen old.screen new.screen output.rows
 
-  -- Why a line stopped, with these acts left, and what it put by then.
+  -- Why a line stopped, with these acts left, and what it put by then. Only a line of an edit list stops for the store, before its call.
   abbrev pub StopsLine : Setting M F → (old new : Player M K) → Played F × List Act → Halt → Type 0
   StopsLine s old new (p, left) (halt.Store fault) = PutsAll s old new (output_of s (s.library old.desk.fixed.library) p)
       × FetchHasCause s.tells.store old.store new.store (file_wanted p.line.call) (Err fault) × (fault ≡ fetching.NoMemory → ⊥)
+      × ((file : List ℕ) × (p.line.call ≡ call.Edl file)) × (p.calls ≡ [])
   StopsLine s old new (p, left) halt.Screen = PutsSome s old new (output_of s (s.library old.desk.fixed.library) p)
       × GotAll s.tells.out old.out new.out (texts (lines_of (s.library old.desk.fixed.library) p))
       × Rose old.screen.faults new.screen.faults

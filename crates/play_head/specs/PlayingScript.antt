@@ -1,5 +1,5 @@
 -- What playing a script's body does: its lines one after another, and where one stops it, the stop line.
-use Rattle.std.specs.Prelude.{◌≡◌, ◌⊎◌, ℕ, Bool, true, false, List, [], ◌∷◌, ◌++◌, map, codes, Option, Some, None, Result, Ok, Err}
+use Rattle.std.specs.Prelude.{◌≡◌, ◌⊎◌, ◌≤◌, ℕ, Bool, true, false, List, [], ◌∷◌, ◌++◌, map, codes, Option, Some, None, Result, Ok, Err}
 use Rattle.std.specs.List.{flat_map}
 use Rattle.pic_planes.specs.Picture.{Image}
 use Rattle.tl_model.specs.Media.{Library}
@@ -76,12 +76,17 @@ abbrev pub setting_of : {M : Type 0} → (M → Library Image) → (clips : List
 setting_of library clips rate files tells =
     record { library = library; rows = image_rows; clips = clips; rate = rate; files = files; tells = tells }
 
+-- Whether each of the three tells what it holds.
+abbrev pub tells_of : (store screen out : Bool) → Tells
+tells_of store screen out = record { store = store; screen = screen; out = out }
+
 module _ {M K : Type 0} where
-  -- Nothing but `out` changes.
+  -- Nothing but `out` changes, and its count of faults doesn't fall.
   pub record OnlyPuts (old new : Player M K) : Type 0 where
     pub desk : new.desk ≡ old.desk
     pub store : new.store ≡ old.store
     pub screen : new.screen ≡ old.screen
+    pub later : old.out.faults ≤ new.out.faults
 
 module _ {M K F : Type 0} where
   -- Lines were played to their end, one after another.

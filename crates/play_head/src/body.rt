@@ -4,7 +4,7 @@ ghost use Rattle.std.specs.Prelude.{◌≡◌, ◌≤◌, Bool, length};
 ghost use Rattle.tl_limits.specs.Limits.{max_clips};
 ghost use Rattle.script_lang.specs.ScriptSound.{IsScript};
 ghost use Rattle.play_head.specs.Playing.{player};
-ghost use Rattle.play_head.specs.PlayingScript.{PlaysScript, setting_of};
+ghost use Rattle.play_head.specs.PlayingScript.{PlaysScript, setting_of, tells_of};
 
 use crate::ending::{Playback, stop_script};
 use crate::lines::play_line;
@@ -34,8 +34,7 @@ where
     requires script { IsScript script.now }
     requires clips { length clips.now ≤ max_clips }
     ensures { PlaysScript
-        (setting_of D.Lib.library clips.now script.now.rate (T.seen store.old).file
-        (record { store = T.tells; screen = S.tells; out = O.tells }))
+        (setting_of D.Lib.library clips.now script.now.rate (T.seen store.old).file (tells_of T.tells S.tells O.tells))
         (player (D.desk desk.old) (T.seen store.old) (S.seen screen.old) (O.seen out.old))
         (player (D.desk desk.new) (T.seen store.new) (S.seen screen.new) (O.seen out.new))
         script.now.body (result.result, result.is_silenced) }
@@ -69,8 +68,7 @@ where
     requires script { IsScript script.now }
     requires clips { length clips.now ≤ max_clips }
     ensures { (silenced : Bool) × PlaysScript
-        (setting_of D.Lib.library clips.now script.now.rate (T.seen store.old).file
-        (record { store = T.tells; screen = S.tells; out = O.tells }))
+        (setting_of D.Lib.library clips.now script.now.rate (T.seen store.old).file (tells_of T.tells S.tells O.tells))
         (player (D.desk desk.old) (T.seen store.old) (S.seen screen.old) (O.seen out.old))
         (player (D.desk desk.new) (T.seen store.new) (S.seen screen.new) (O.seen out.new))
         script.now.body (result, silenced) }

@@ -1,6 +1,6 @@
 //! The stop line: why a script stopped at one of its lines.
 
-ghost use Rattle.std.specs.Prelude.{◌≡◌, ◌≢◌, ◌∷◌, [], Err, IfOk, IfSome, IsTrue};
+ghost use Rattle.std.specs.Prelude.{◌≡◌, ◌≢◌, ◌≤◌, ◌∷◌, [], Err, IfOk, IfSome, IsTrue};
 ghost use Rattle.tl_ports.specs.declared.fault.FetchFault.TheVariants as fetching;
 ghost use Rattle.script_lang.specs.Line.{is_listed};
 ghost use Rattle.play_head.specs.declared.halt.Halt.TheVariants as halt;
@@ -95,7 +95,8 @@ fn stopped(what: Stop, is_silenced: bool) -> Playback
 /// Puts the stop line.
 pub(crate) fn stop_script<O: Sink>(alloc: Global, out: &mut O, call: &Call, why: Halt) -> Playback
     requires { why ≢ halt.Store fetching.NoMemory }
-    ensures { StopsBy O.tells (O.seen out.old) (O.seen out.new) (call.now, why) (result.result, result.is_silenced) }
+    ensures stops { StopsBy O.tells (O.seen out.old) (O.seen out.new) (call.now, why) (result.result, result.is_silenced) }
+    ensures later { (O.seen out.old).faults ≤ (O.seen out.new).faults }
 {
     match stop_line(alloc, call, why) {
         Ok(None) => stopped(stop_of(why), true),

@@ -6,7 +6,7 @@ ghost use Rattle.script_lang.specs.ScriptSound.{IsCall};
 ghost use Rattle.play_head.specs.Acts.{edit_for};
 ghost use Rattle.play_head.specs.Playing.{player};
 ghost use Rattle.play_head.specs.PlayingLine.{PlaysLine};
-ghost use Rattle.play_head.specs.PlayingScript.{setting_of};
+ghost use Rattle.play_head.specs.PlayingScript.{setting_of, tells_of};
 
 use crate::calls::{ask, cancel, edit, redo, undo, want};
 use crate::edits::edit_for;
@@ -41,8 +41,7 @@ where
     requires call { IsCall line.now.call }
     requires other { edit_for clips.now line.now.call ≡ None }
     ensures { PlaysLine
-        (setting_of D.Lib.library clips.now rate (T.seen store.old).file
-        (record { store = T.tells; screen = S.tells; out = O.tells }))
+        (setting_of D.Lib.library clips.now rate (T.seen store.old).file (tells_of T.tells S.tells O.tells))
         (player (D.desk desk.old) (T.seen store.old) (S.seen screen.old) (O.seen out.old))
         (player (D.desk desk.new) (T.seen store.new) (S.seen screen.new) (O.seen out.new)) line.now result }
 {
@@ -79,8 +78,7 @@ where
     requires clips { length clips.now ≤ max_clips }
     requires call { IsCall line.now.call }
     ensures { PlaysLine
-        (setting_of D.Lib.library clips.now rate (T.seen store.old).file
-        (record { store = T.tells; screen = S.tells; out = O.tells }))
+        (setting_of D.Lib.library clips.now rate (T.seen store.old).file (tells_of T.tells S.tells O.tells))
         (player (D.desk desk.old) (T.seen store.old) (S.seen screen.old) (O.seen out.old))
         (player (D.desk desk.new) (T.seen store.new) (S.seen screen.new) (O.seen out.new)) line.now result }
 {

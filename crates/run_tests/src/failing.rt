@@ -6,7 +6,8 @@ use std::test::Fail;
 
 const THREE: &str = "rate 25\nclip A a.mkv\nformat as A\ninsert 0 A 0 3\nexport o.mkv\n";
 
-const SHOWN: &str = "rate 25\nclip A a.mkv\nformat as A\ninsert 0 A 0 3\nexport o.mkv\nshow 1\nundo\n";
+const SHOWN: &str =
+    "rate 25\nclip A a.mkv\nformat as A\ninsert 0 A 0 3\nexport o.mkv\nshow 1\nundo\n";
 
 /// An export of three frames.
 const WHOLE: Option<usize> = Some(261 + RECORD_LEN);

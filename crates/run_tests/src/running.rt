@@ -68,7 +68,11 @@ pub(crate) fn expect_run(
     let outcome = run_alone(alloc, &words, &mut store, &mut vault, &mut screen, &mut out);
     assert_eq!(rt; outcome.status, ended.status, "{script}");
     assert!(rt; out.bytes() == ended.lines.as_bytes(), "{script}");
-    assert_eq!(rt; vault.file("o.mkv").map(|file| file.len()), ended.exported, "{script}");
+    assert_eq!(rt;
+        vault.file("o.mkv").map(|file| file.len()),
+        ended.exported,
+        "{script}"
+    );
     assert_eq!(rt; screen.bytes().len(), ended.shown, "{script}");
     Ok(())
 }

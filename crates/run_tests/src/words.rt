@@ -3,12 +3,13 @@
 use crate::running::store_of;
 use std::alloc::{AllocError, Global};
 use std::test::Fail;
-use timeline_app::run_alone;
+use timeline_app::{Asked, read_words, run_alone, wants_threads};
 use tl_ports::{MemSink, MemVault};
 
 const USAGE: &str = "usage: timeline SCRIPT [--workers N] [--cache N] [--journal N]\n";
 
-const SCRIPT: &str = "rate 25\nclip A a.mkv\nformat as A\ninsert 0 A 0 3\nwant 0 2\nwork 2\nplay 0\nplay 1\n";
+const SCRIPT: &str =
+    "rate 25\nclip A a.mkv\nformat as A\ninsert 0 A 0 3\nwant 0 2\nwork 2\nplay 0\nplay 1\n";
 
 /// Words, the status, and the lines.
 #[rattlefmt::skip]
@@ -48,6 +49,34 @@ fn each_line_of_words(rt: HostRuntime) -> Result<(), Fail> {
         let outcome = run_alone(alloc, &words, &mut store, &mut vault, &mut screen, &mut out);
         assert_eq!(rt; outcome.status, status, "{lines}");
         assert!(rt; out.bytes() == lines.as_bytes(), "{lines}");
+    }
+    Ok(())
+}
+
+/// Words, the workers, results and entries that they ask for, and whether that is a session with workers. The script is `s`.
+#[rattlefmt::skip]
+const NUMBERS: [(&[&str], Option<(u32, u32, u64)>, bool); 6] = [
+    (&["s"], Some((2, 64, 1_000_000)), true),
+    (&["s", "--workers", "0", "--journal=16"], Some((0, 64, 16)), false),
+    (&["--cache", "4096", "s", "--workers", "1"], Some((1, 4_096, 1_000_000)), true),
+    (&[], None, false),
+    (&["s", "--workers", "17"], None, false),
+    (&["gen:5"], None, false),
+];
+
+#[test]
+fn what_words_ask_for(rt: HostRuntime) -> Result<(), Fail> {
+    let alloc = rt.alloc();
+    for (words, numbers, threads) in NUMBERS {
+        let words = words_of(alloc, words)?;
+        let asked = numbers.map(|(workers, cache, journal)| Asked {
+            script: "s",
+            workers,
+            cache,
+            journal,
+        });
+        assert_eq!(rt; read_words(alloc, words.as_slice())?, asked);
+        assert_eq!(rt; wants_threads(alloc, words.as_slice())?, threads);
     }
     Ok(())
 }

@@ -1,3 +1,4 @@
+pub mod Crossing
 pub mod Entering
 pub mod Gains
 pub mod Meeting

@@ -17,8 +17,10 @@ use Rattle.render_core.specs.Export.{ExportOf}
 use Rattle.render_core.specs.State.{owed}
 use Rattle.render_core.specs.Step.{Silent}
 use Rattle.edit_desk.specs.Desk.{DeskOf, IsDesk, Enters, state_of, heard}
+use Rattle.edit_desk.specs.Was.{Was}
 use Rattle.script_lang.specs.declared.out_line.OutLine.{OutLine}
 use Rattle.script_lang.specs.declared.script.BodyLine.{BodyLine}
+use Rattle.script_lang.specs.declared.script.Call.TheVariants as call
 use Rattle.play_head.specs.declared.halt.Halt.{Halt}
 use Rattle.play_head.specs.declared.halt.Halt.TheVariants as halt
 use Rattle.play_head.specs.declared.stop.Stop.{Stop}
@@ -82,6 +84,11 @@ abbrev pub SaysBy : Bool → (old new : SinkSeen) → List OutLine → (said : R
 SaysBy tells old new lines (Ok done) = GotAll tells old new (texts lines)
 SaysBy tells old new lines (Err putting.Failed) = GotFront tells old new (texts lines) × Rose old.faults new.faults
 SaysBy tells old new lines (Err putting.NoMemory) = GotFront tells old new (texts lines)
+
+-- What is put after lines that went as the first says, and how that went: nothing more after a put that wasn't `Ok`.
+abbrev pub SaysRest : Bool → (old new : SinkSeen) → List OutLine → Result Unit PutFault × Result Unit PutFault → Type 0
+SaysRest tells old new lines (Ok done, said) = SaysBy tells old new lines said
+SaysRest tells old new lines (Err fault, said) = (said ≡ Err fault) × (new ≡ old)
 
 -- The rows were put; or some front of them, since the screen or `out` failed or memory ran out.
 abbrev pub ShowsBy : Bool → (old new : SinkSeen) → List (List ℕ) → Option Halt → Type 0
@@ -148,11 +155,12 @@ module _ {M K F : Type 0} where
     pub owing : told.1 ≡ owed (state_of s.library (record d { seen = front }))
     pub full : d.fixed.limit < told.0 + told.1 + next_need left (state_of s.library (record d { seen = front }))
 
-  -- Why a line stopped after these calls, by what is seen of the store and of the sinks from the session's start to its end. Want of
-  -- memory is free.
+  -- Why a line stopped after these calls, by what is seen of the store and of the sinks from the session's start to its end. Only a
+  -- line of an edit list stops for the store, before its call. Want of memory is free.
   abbrev pub IsCause : Setting M F → (old new : Player M K) → List (CallOf F) × Halted F → Halt → Type 0
   IsCause s old new (calls, h) (halt.Store fault) =
       FetchHasCause s.tells.store old.store new.store (file_wanted h.played.line.call) (Err fault) × (fault ≡ fetching.NoMemory → ⊥)
+      × ((file : List ℕ) × (h.played.line.call ≡ call.Edl file)) × (h.played.calls ≡ [])
   IsCause s old new (calls, h) halt.Screen = Rose old.screen.faults new.screen.faults
   IsCause s old new (calls, h) halt.Out = Rose old.out.faults new.out.faults
   IsCause s old new (calls, h) halt.NoMemory = Unit {0}
@@ -171,6 +179,9 @@ module _ {M K F : Type 0} where
     pub lines : AreLines p.body c.played c.halted
     -- 1 and 7: a whole line has all its calls, and one of work its turns
     pub whole : AreWhole p.setting new.player.desk [] c.played
+    -- 7: nothing stops the session before its stop: with just some first calls of the script it wasn't stopped
+    pub going : (front rest : List (CallOf F)) → script_calls c ≡ front ++ rest
+        → Was p.setting.library new.player.desk front (λ state. IsTrue state.is_stopped) → ⊥
     -- 1: the line that stopped has some first of its calls
     pub begun : IsBegun p.setting new.player.desk c.halted
     -- 1: the caller's calls in the journal are those of these lines, the stop, and those of the exports

@@ -1,6 +1,7 @@
-pub mod Course
-pub mod Ending
-pub mod Head
-pub mod Runs
-pub mod Session
 pub mod Words
+pub mod Session
+pub mod Head
+pub mod Opening
+pub mod Ending
+pub mod Course
+pub mod Runs

@@ -1,45 +1,30 @@
 -- What a run does, by its words, of the outside before and after it: it says how the program is used; or what keeps its session from
 -- starting; or it plays the session.
-use Rattle.std.specs.Prelude.{◌≡◌, ◌⊎◌, ℕ, Bool, false, List, [], ◌∷◌, Option, Result, Ok, Err}
+use Rattle.std.specs.Prelude.{◌≡◌, ◌⊎◌, ℕ, Bool, false, List, [], ◌∷◌, Option, Result}
 use Rattle.pic_planes.specs.Picture.{Image}
 use Rattle.tl_model.specs.declared.journal.Entry.{Entry}
 use Rattle.tl_ports.specs.declared.fault.PutFault.{PutFault}
-use Rattle.tl_ports.specs.Seen.{Outside, SinkSeen, StoreSeen, Telling}
+use Rattle.tl_ports.specs.Seen.{Outside, SinkSeen, Telling}
+use Rattle.render_core.specs.Calls.{own}
 use Rattle.edit_desk.specs.Desk.{DeskOf}
 use Rattle.clip_store.specs.Library.{LibraryOf}
-use Rattle.clip_store.specs.Readying.{IsOutputOf}
 use Rattle.clip_store.specs.Render.{library_of}
 use Rattle.script_lang.specs.declared.out_line.OutLine.{OutLine}
 use Rattle.script_lang.specs.declared.out_line.OutLine.TheVariants as out
-use Rattle.script_lang.specs.declared.script.Script.{Script}
 use Rattle.play_head.specs.Playing.{player}
 use Rattle.play_head.specs.PlayingScript.{setting_of}
 use Rattle.timeline_app.specs.declared.opening.Opening.{Opening}
-use Rattle.timeline_app.specs.declared.run.Outcome.{Outcome}
+use Rattle.timeline_app.specs.declared.outcome.Outcome.{Outcome}
 use Rattle.timeline_app.specs.declared.session.HeadStop.{HeadStop}
-use Rattle.timeline_app.specs.declared.session.HeadStop.TheVariants as stop
 use Rattle.timeline_app.specs.declared.words.Asked.{Asked}
 use Rattle.timeline_app.specs.Course.{Course, Program, Session, SaysBy, RunsCourse}
 use Rattle.timeline_app.specs.Ending.{status_unless}
-use Rattle.timeline_app.specs.Head.{clips_of, format_for, head_line, head_status}
-use Rattle.timeline_app.specs.Session.{Fetching, IsCalm, Opens, fetched_by}
+use Rattle.timeline_app.specs.Head.{head_line, head_status}
+use Rattle.timeline_app.specs.Opening.{IsHeadCause, IsOpened}
+use Rattle.timeline_app.specs.Session.{fetched_by}
 use Rattle.timeline_app.specs.Words.{AsksFor, is_of_form}
 
 -- ---- a session that is begun
-
--- Its script and clips were fetched and are these, the names are those of the clips, and the library has the script's format.
-pub record IsOpened (by : Fetching) (name : List ℕ) (o : Opening) : Type 0 where
-  pub opens : Opens by name (Ok (o.script, o.library.clips))
-  pub names : o.clips ≡ clips_of o.script
-  pub output : IsOutputOf o.library.clips (format_for o.clips o.script.format) o.library.output
-
--- Why none is: the first thing that isn't fetched or is faulty; or memory ran out.
-abbrev pub IsHeadCause : Fetching → (name : List ℕ) → HeadStop → Type 0
-IsHeadCause by name why = Opens by name (Err why) ⊎ ((why ≡ stop.NoMemory) × IsCalm by)
-
-abbrev pub OpensLibrary : Fetching → (name : List ℕ) → Result Opening HeadStop → Type 0
-OpensLibrary by name (Ok opening) = IsOpened by name opening
-OpensLibrary by name (Err why) = IsHeadCause by name why
 
 -- What is played of it, over a store of these files.
 abbrev pub program_of : Opening → (files : List ℕ → Option (List ℕ)) → Telling → Program LibraryOf Image
@@ -81,13 +66,14 @@ pub record Unstarted (asked : Asked) (old new : Outside) (tells : Telling) (outc
   pub says : EndsEarly tells.out old.out new.out (head_line why, head_status why) outcome
   pub quiet : IsQuiet old new
 
--- The session was played.
+-- The session was played, by its one caller: each entry of the journal is of pass 0.
 pub record Ran (asked : Asked) (old new : Outside) (tells : Telling) (outcome : Outcome) : Type 0 where
   pub opening : Opening
   pub is : IsOpened (fetched_by tells.store old.store old.store) asked.script.now opening
   pub course : Course Image
   pub runs : RunsCourse (program_of opening old.store.file tells) (session_at (desk_at asked opening.library []) old)
       (session_at (desk_at asked opening.library outcome.journal) new) course outcome.status
+  pub alone : own 0 outcome.journal ≡ outcome.journal
 
 abbrev pub RunsAsked : Asked → (old new : Outside) → Telling → Outcome → Type 0
 RunsAsked asked old new tells outcome = Unstarted asked old new tells outcome ⊎ Ran asked old new tells outcome
@@ -102,16 +88,3 @@ pub record Misuses (form : Bool) (old new : Outside) (tells : Telling) (outcome 
 abbrev pub Runs : (words : List (List ℕ)) → (old new : Outside) → Telling → Outcome → Type 0
 Runs words old new tells outcome = Misuses (is_of_form words) old new tells outcome
     ⊎ ((asked : Asked) × AsksFor words asked × RunsAsked asked old new tells outcome)
-
--- ---- a session, once it is begun
-
--- What it is played with: its script and clips, and the outside before and after it.
-pub record Playing : Type 0 where
-  pub opening : Opening
-  pub old : Outside
-  pub new : Outside
-  pub tells : Telling
-
-abbrev pub RunsOpened : DeskOf LibraryOf (Unit {0}) → Playing → Outcome → Type 0
-RunsOpened desk p outcome = (course : Course Image) × RunsCourse (program_of p.opening p.old.store.file p.tells) (session_at desk p.old)
-    (session_at (record desk { seen = outcome.journal }) p.new) course outcome.status

@@ -8,7 +8,7 @@ use Rattle.script_lang.specs.declared.script.ClipLine.{ClipLine}
 use Rattle.script_lang.specs.declared.script.Script.{Script}
 use Rattle.script_lang.specs.declared.script.ScriptRefusal.TheVariants as refusal
 use Rattle.script_lang.specs.ScriptText.{script}
-use Rattle.clip_store.specs.Clip.{ClipOf, FileOf, file_of}
+use Rattle.clip_store.specs.Clip.{ClipOf, file_of}
 use Rattle.clip_store.specs.declared.fault.LoadFault.TheVariants as load
 use Rattle.clip_store.specs.Loading.{Loads, Refuses}
 use Rattle.timeline_app.specs.declared.session.HeadStop.{HeadStop}
@@ -27,12 +27,15 @@ fetched_by tells old new = record { tells = tells; old = old; new = new }
 abbrev pub IsCalm : Fetching → Type 0
 IsCalm by = by.new.faults ≡ by.old.faults
 
--- A script and a clip, as files that are asked for.
+-- A file that is asked for, and so a script and a clip.
+abbrev pub file_within : (name : List ℕ) → (limit : ℕ) → Wanted
+file_within name limit = record { name = name; limit = limit }
+
 abbrev pub text_at : (name : List ℕ) → Wanted
-text_at name = record { name = name; limit = max_text_bytes }
+text_at name = file_within name max_text_bytes
 
 abbrev pub clip_at : ClipLine → Wanted
-clip_at line = record { name = line.file; limit = max_clip_bytes }
+clip_at line = file_within line.file max_clip_bytes
 
 -- The file wasn't fetched, and the stop says why.
 abbrev pub IsUnfetchedStop : Fetching → Wanted → HeadStop → Type 0

@@ -1,5 +1,6 @@
 -- The words of the command line: SCRIPT [--workers N] [--cache N] [--journal N].
-use Rattle.std.specs.Prelude.{◌≡◌, ◌≤◌, ◌==◌, ◌&&◌, not, ℕ, Bool, true, false, List, [], ◌∷◌, length, take, codes, Option, Some, None, Result, Ok, Err}
+use Rattle.std.specs.Prelude.{◌≡◌, ◌⊎◌, ◌≤◌, ◌==◌, ◌&&◌, not, ℕ, Bool, true, false, List, [], ◌∷◌, length, take, codes}
+use Rattle.std.specs.Prelude.{Option, Some, None, Result, Ok, Err}
 use Rattle.std.specs.Str.{bytes_eq}
 use Rattle.std.specs.Str.Parse.{digits_value, without_leading_plus}
 use Rattle.clap.specs.Values.{IsUnsignedIn}
@@ -49,10 +50,14 @@ is_named (Some script) = not (is_made script)
 abbrev pub is_of_form : List Text → Bool
 is_of_form words = (length (fault_of command words) == 0) && is_named (first_of (codes "SCRIPT") (matches_of command words))
 
+-- Its text is a number within the bounds.
+abbrev pub IsWithin : Bounds → Text → Type 0
+IsWithin bounds text = IsUnsignedIn bounds.least bounds.most text
+
 -- The usual number where the option isn't given, else the one that its text is. It is within the bounds.
 pub record IsNumber (bounds : Bounds) (given : Option Text) (n : ℕ) : Type 0 where
   pub usual : given ≡ None → n ≡ bounds.usual
-  pub read : (text : Text) → given ≡ Some text → IsUnsignedIn bounds.least bounds.most text → n ≡ digits_value 10 (without_leading_plus text)
+  pub read : (text : Text) → given ≡ Some text → IsWithin bounds text → n ≡ digits_value 10 (without_leading_plus text)
   pub least : bounds.least ≤ n
   pub most : n ≤ bounds.most
 
@@ -67,13 +72,23 @@ abbrev pub AsksBy : List Row → Option Asked → Type 0
 AsksBy rows None = is_named (first_of (codes "SCRIPT") rows) ≡ false
 AsksBy rows (Some asked) = (is_named (first_of (codes "SCRIPT") rows) ≡ true) × IsAsked rows asked
 
--- What the words ask for, or none exactly where they aren't of the form. Nothing is said where memory ran out.
+-- What the words ask for, or none exactly where they aren't of the form.
+abbrev pub AsksWords : List Text → Option Asked → Type 0
+AsksWords words None = is_of_form words ≡ false
+AsksWords words (Some asked) = (is_of_form words ≡ true) × IsAsked (matches_of command words) asked
+
+-- Nothing is said where memory ran out.
 abbrev pub ReadsWords : {E : Type 0} → List Text → Result (Option Asked) E → Type 0
-ReadsWords words (Ok None) = is_of_form words ≡ false
-ReadsWords words (Ok (Some asked)) = (is_of_form words ≡ true) × IsAsked (matches_of command words) asked
+ReadsWords words (Ok asked) = AsksWords words asked
 ReadsWords words (Err error) = Unit {0}
 
 -- The words are of the form, and ask for this.
 pub record AsksFor (words : List Text) (asked : Asked) : Type 0 where
   pub form : is_of_form words ≡ true
   pub is : IsAsked (matches_of command words) asked
+
+-- Whether the session they ask for has workers. Nothing is said where memory ran out.
+abbrev pub WantsThreads : {E : Type 0} → List Text → Result Bool E → Type 0
+WantsThreads words (Ok true) = (asked : Asked) × AsksFor words asked × (1 ≤ asked.workers)
+WantsThreads words (Ok false) = (is_of_form words ≡ false) ⊎ ((asked : Asked) × AsksFor words asked × (asked.workers ≡ 0))
+WantsThreads words (Err error) = Unit {0}

@@ -1,6 +1,7 @@
 //! The end of a session: the end line of each export, and the status.
 
-ghost use Rattle.std.specs.Prelude.{◌≡◌, ◌≤◌, ◌∷◌, [], IfOk, flat_map};
+ghost use Rattle.std.specs.Prelude.{◌≡◌, ◌≤◌, ◌∷◌, [], IfOk};
+ghost use Rattle.std.specs.List.{flat_map, list_any};
 ghost use Rattle.timeline_app.specs.Ending.{clip_name, ending_line, is_sink, is_memory, is_fault, ending_status, stop_status, unless_stopped, final_status, entry_lines, entry_endings, any_ending, stop_in};
 ghost use Rattle.tl_model.specs.declared.fault.Ending.TheVariants as ending;
 ghost use Rattle.timeline_app.specs.Course.{SaysBy};
@@ -77,6 +78,22 @@ fn say_ending<O: Sink>(
     }
 }
 
+/// Puts the line of an entry that ends an export. Any other entry has none.
+fn say_entry<O: Sink>(
+    alloc: Global,
+    out: &mut O,
+    clips: &Clips,
+    entry: &Entry,
+) -> Result<(), PutFault>
+    ensures says { SaysBy O.tells (O.seen out.old) (O.seen out.new) (entry_lines clips.now entry.now) result }
+    ensures later { (O.seen out.old).faults ≤ (O.seen out.new).faults }
+{
+    match &entry.act {
+        Act::End { export, ending } => say_ending(alloc, out, clips, *export, *ending),
+        _ => Ok(()),
+    }
+}
+
 /// Puts the line of each export that ended, in the order of the journal, up to a put that isn't `Ok`.
 pub fn say_endings<O: Sink>(
     alloc: Global,
@@ -88,11 +105,9 @@ pub fn say_endings<O: Sink>(
     ensures later { (O.seen out.old).faults ≤ (O.seen out.new).faults }
 {
     for entry in journal {
-        if let Act::End { export, ending } = &entry.act {
-            match say_ending(alloc, out, clips, *export, *ending) {
-                Ok(()) => {}
-                Err(fault) => return Err(fault),
-            }
+        match say_entry(alloc, out, clips, entry) {
+            Ok(()) => {}
+            Err(fault) => return Err(fault),
         }
     }
     Ok(())
@@ -101,36 +116,72 @@ pub fn say_endings<O: Sink>(
 fn is_sink(entry: &Entry) -> bool
     ensures { result ≡ any_ending is_sink entry.now }
 {
-    matches!(&entry.act, Act::End { export: _, ending: Ending::Sink })
+    matches!(
+        &entry.act,
+        Act::End {
+            export: _,
+            ending: Ending::Sink
+        }
+    )
 }
 
 fn is_memory(entry: &Entry) -> bool
     ensures { result ≡ any_ending is_memory entry.now }
 {
-    matches!(&entry.act, Act::End { export: _, ending: Ending::NoMemory })
+    matches!(
+        &entry.act,
+        Act::End {
+            export: _,
+            ending: Ending::NoMemory
+        }
+    )
 }
 
 fn is_fault(entry: &Entry) -> bool
     ensures { result ≡ any_ending is_fault entry.now }
 {
     match &entry.act {
-        Act::End { export: _, ending: Ending::ClipFault { at: _, fault: _ } } => true,
-        Act::End { export: _, ending: Ending::SliceTooLong { at: _ } } => true,
+        Act::End {
+            export: _,
+            ending: Ending::ClipFault { at: _, fault: _ },
+        } => true,
+        Act::End {
+            export: _,
+            ending: Ending::SliceTooLong { at: _ },
+        } => true,
         _ => false,
     }
+}
+
+fn has_sink(journal: &[Entry]) -> bool
+    ensures { result ≡ list_any is_sink (flat_map entry_endings journal.now) }
+{
+    journal.iter().any(|entry| is_sink(entry))
+}
+
+fn has_memory(journal: &[Entry]) -> bool
+    ensures { result ≡ list_any is_memory (flat_map entry_endings journal.now) }
+{
+    journal.iter().any(|entry| is_memory(entry))
+}
+
+fn has_fault(journal: &[Entry]) -> bool
+    ensures { result ≡ list_any is_fault (flat_map entry_endings journal.now) }
+{
+    journal.iter().any(|entry| is_fault(entry))
 }
 
 /// The status of exports that ended.
 fn ending_status(journal: &[Entry]) -> u8
     ensures { result ≡ ending_status (flat_map entry_endings journal.now) }
 {
-    if journal.iter().any(is_sink) {
+    if has_sink(journal) {
         return 4;
     }
-    if journal.iter().any(is_memory) {
+    if has_memory(journal) {
         return 5;
     }
-    if journal.iter().any(is_fault) { 7 } else { 0 }
+    if has_fault(journal) { 7 } else { 0 }
 }
 
 /// The status of what stopped a script.
@@ -157,11 +208,7 @@ fn unless_stopped(status: u8, played: Result<(), Stop>) -> u8
 }
 
 /// The status of a session, by how the puts to `out` went, how playing its script ended, and its journal.
-pub fn final_status(
-    said: Result<(), PutFault>,
-    played: Result<(), Stop>,
-    journal: &[Entry],
-) -> u8
+pub fn final_status(said: Result<(), PutFault>, played: Result<(), Stop>, journal: &[Entry]) -> u8
     ensures { result ≡ final_status said (stop_in played) (flat_map entry_endings journal.now) }
 {
     match said {

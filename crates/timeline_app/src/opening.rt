@@ -1,12 +1,11 @@
 //! The beginning of a session: the script is read, its clips are loaded, and they are made a library of the script's format.
 
-ghost use Rattle.std.specs.Prelude.{◌≡◌, IfOk, map};
-ghost use Rattle.script_lang.specs.ScriptSound.{IsScript};
-ghost use Rattle.script_lang.specs.Header.{is_covered};
-ghost use Rattle.clip_store.specs.Readying.{IsFormat};
-ghost use Rattle.timeline_app.specs.Head.{clips_of, coder_for, format_for};
+ghost use Rattle.std.specs.Prelude.{◌≡◌, ◌≤◌, IfOk, OnOk, length, map};
+ghost use Rattle.tl_limits.specs.Limits.{max_clips};
+ghost use Rattle.script_lang.specs.ScriptSound.{IsFormat, IsScript};
+ghost use Rattle.timeline_app.specs.Head.{coder_for, format_for};
 ghost use Rattle.timeline_app.specs.Session.{fetched_by};
-ghost use Rattle.timeline_app.specs.Runs.{OpensLibrary};
+ghost use Rattle.timeline_app.specs.Opening.{OpensLibrary};
 
 use crate::session::{HeadStop, open};
 use clip_store::{Format, Library};
@@ -49,12 +48,20 @@ fn coder_for(word: CoderWord) -> Coder
 
 /// The format that a line asks for.
 fn format_for(clips: &Clips, line: &FormatLine) -> Format
-    requires { IsFormat (map (λ clip. clip.0) clips.now) line.now }
+    requires sound { IsFormat (map (λ clip. clip.0) clips.now) line.now }
+    requires few { length clips.now ≤ max_clips }
     ensures { result ≡ format_for clips.now line.now }
 {
     match line {
         FormatLine::As { name } => Format::As(clip_number(clips, name)),
-        FormatLine::Own { width, height, chroma, coder, columns, rows } => Format::Own {
+        FormatLine::Own {
+            width,
+            height,
+            chroma,
+            coder,
+            columns,
+            rows,
+        } => Format::Own {
             shape: Shape::of(*width, *height, chroma_planes(*chroma)).unwrap(),
             coder: coder_for(*coder),
             h: *columns,
@@ -66,6 +73,9 @@ fn format_for(clips: &Clips, line: &FormatLine) -> Format
 /// Fetches and reads the script of this name, loads its clips, and makes them a library of its format.
 pub fn open_library<T: Store>(alloc: Global, store: &mut T, name: &str) -> Result<Opening, HeadStop>
     ensures opens { OpensLibrary (fetched_by T.tells (T.seen store.old) (T.seen store.new)) name.now result }
+    ensures sound { IfOk result (λ opening. IsScript opening.script) }
+    ensures few { IfOk result (λ opening. length opening.clips ≤ max_clips) }
+    ensures same { OnOk result (T.seen store.new ≡ T.seen store.old) }
     ensures files { (T.seen store.new).file ≡ (T.seen store.old).file }
 {
     let (script, shelf) = open(alloc, store, name)?;
@@ -74,7 +84,11 @@ pub fn open_library<T: Store>(alloc: Global, store: &mut T, name: &str) -> Resul
     };
     let format = format_for(&clips, &script.format);
     match shelf.ready(alloc, format) {
-        Ok(library) => Ok(Opening { script, clips, library }),
+        Ok(library) => Ok(Opening {
+            script,
+            clips,
+            library,
+        }),
         Err(_) => Err(HeadStop::NoMemory),
     }
 }

@@ -1,8 +1,9 @@
 //! The head of a session: its script is fetched and read, and then the clips of its lines are loaded, one after another.
 
-ghost use Rattle.std.specs.Prelude.{◌≡◌, ◌≤◌, IfOk, IfErr, OnOk};
+ghost use Rattle.std.specs.Prelude.{◌≡◌, IfOk, IfErr, OnOk};
+ghost use Rattle.script_lang.specs.ScriptSound.{IsScript};
 ghost use Rattle.tl_ports.specs.Outside.{IsFetched};
-ghost use Rattle.timeline_app.specs.Session.{fetched_by, IsUnfetchedStop, ReadsText, LoadsOr, LoadsClips, Opens};
+ghost use Rattle.timeline_app.specs.Session.{fetched_by, file_within, IsUnfetchedStop, ReadsText, LoadsOr, LoadsClips, Opens};
 
 use clip_store::{LoadFault, Shelf};
 use script_lang::{ClipLine, Script, ScriptFault, ScriptRefusal, read_script};
@@ -31,11 +32,10 @@ fn fetch<T: Store>(
     name: &str,
     limit: u64,
 ) -> Result<Vec<u8>, HeadStop>
-    ensures fetched { IfOk result (λ bytes. IsFetched T.tells (T.seen store.old) (record { name = name.now; limit = limit }) bytes.items) }
-    ensures stop { IfErr result (IsUnfetchedStop (fetched_by T.tells (T.seen store.old) (T.seen store.new)) (record { name = name.now; limit = limit })) }
+    ensures fetched { IfOk result (λ bytes. IsFetched T.tells (T.seen store.old) (file_within name.now limit) bytes.items) }
+    ensures stop { IfErr result (IsUnfetchedStop (fetched_by T.tells (T.seen store.old) (T.seen store.new)) (file_within name.now limit)) }
     ensures files { (T.seen store.new).file ≡ (T.seen store.old).file }
-    ensures later { (T.seen store.old).faults ≤ (T.seen store.new).faults }
-    ensures calm { OnOk result ((T.seen store.new).faults ≡ (T.seen store.old).faults) }
+    ensures same { OnOk result (T.seen store.new ≡ T.seen store.old) }
 {
     let Ok(text) = String::from_str(alloc, name) else {
         return Err(HeadStop::NoMemory);
@@ -53,7 +53,8 @@ fn fetch<T: Store>(
 
 /// Reads a script.
 fn script_in(alloc: Global, text: &[u8]) -> Result<Script, HeadStop>
-    ensures { ReadsText text.now result }
+    ensures reads { ReadsText text.now result }
+    ensures sound { IfOk result IsScript }
 {
     match read_script(alloc, text) {
         Ok(script) => Ok(script),
@@ -70,6 +71,7 @@ fn load_line<T: Store>(
     shelf: &mut Shelf,
 ) -> Result<(), HeadStop>
     ensures loads { LoadsOr (fetched_by T.tells (T.seen store.old) (T.seen store.new)) line.now shelf.old shelf.new result }
+    ensures same { OnOk result (T.seen store.new ≡ T.seen store.old) }
     ensures files { (T.seen store.new).file ≡ (T.seen store.old).file }
 {
     let bytes = fetch(alloc, store, line.file.as_str(), MAX_CLIP_BYTES)?;
@@ -83,6 +85,7 @@ fn load_line<T: Store>(
 /// Loads the files of clip lines in their order.
 fn load_lines<T: Store>(alloc: Global, store: &mut T, lines: &[ClipLine]) -> Result<Shelf, HeadStop>
     ensures clips { LoadsClips (fetched_by T.tells (T.seen store.old) (T.seen store.new)) lines.now result }
+    ensures same { OnOk result (T.seen store.new ≡ T.seen store.old) }
     ensures files { (T.seen store.new).file ≡ (T.seen store.old).file }
 {
     let mut shelf = Shelf::start(alloc);
@@ -99,6 +102,8 @@ fn load_lines<T: Store>(alloc: Global, store: &mut T, lines: &[ClipLine]) -> Res
 /// or is faulty stops.
 pub fn open<T: Store>(alloc: Global, store: &mut T, name: &str) -> Result<(Script, Shelf), HeadStop>
     ensures opens { Opens (fetched_by T.tells (T.seen store.old) (T.seen store.new)) name.now result }
+    ensures sound { IfOk result (λ read. IsScript read.0) }
+    ensures same { OnOk result (T.seen store.new ≡ T.seen store.old) }
     ensures files { (T.seen store.new).file ≡ (T.seen store.old).file }
 {
     let text = fetch(alloc, store, name, MAX_TEXT_BYTES)?;

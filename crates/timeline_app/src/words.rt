@@ -1,10 +1,10 @@
 //! The words of the command line: SCRIPT [--workers N] [--cache N] [--journal N].
 
-ghost use Rattle.std.specs.Prelude.{◌≡◌, ◌≤◌, IfOk, codes, map, string_bytes, take};
+ghost use Rattle.std.specs.Prelude.{◌≡◌, ◌≤◌, IfOk, codes, map, string_bytes, take, false};
 ghost use Rattle.std.specs.Str.{bytes_eq};
 ghost use Rattle.clap.specs.Walk.{rows_of};
 ghost use Rattle.clap.specs.Words.{app_of, found_of, one_of, rule_of};
-ghost use Rattle.timeline_app.specs.Words.{script_rule, number_rule, command, is_made, IsNumber, AsksBy, ReadsWords};
+ghost use Rattle.timeline_app.specs.Words.{script_rule, number_rule, command, is_made, IsNumber, AsksBy, ReadsWords, WantsThreads};
 
 use clap::builder::ValueParser;
 use clap::error::ErrorKind;
@@ -155,5 +155,16 @@ pub fn read_words<'a>(alloc: Global, words: &'a [String]) -> Result<Option<Asked
                 Ok(None)
             }
         }
+    }
+}
+
+/// Whether the words ask for a session with workers: true exactly where they are of the form and the number of workers is at
+/// least 1.
+pub fn wants_threads(alloc: Global, words: &[String]) -> Result<bool, AllocError>
+    ensures { WantsThreads (map string_bytes words.now) result }
+{
+    match read_words(alloc, words)? {
+        None => Ok(false),
+        Some(asked) => Ok(asked.workers >= 1),
     }
 }

@@ -4,9 +4,14 @@ use Rattle.render_core.specs.Board.{of_ask}
 use Rattle.edit_desk.specs.Desk.{DeskOf, Answers}
 use Rattle.edit_desk.specs.Alone.{desk_of}
 use Rattle.edit_desk.proofs.Calls.{does_answers}
+use Rattle.edit_desk.proofs.Own.{does_owned}
 use Rattle.edit_desk.proofs.alone.AloneDesk.ask_export.Goals as goal
 
 pub returns : goal.returns
 returns g c =
     subst (λ (d : DeskOf _ _). Answers g.M.Media.library d (desk_of c.ask_export.new.self) (record { act = act.Ask c.args.name.now; view = of_ask }) c.ask_export.result) c.self.view_is
     (does_answers g.M.Media.library 0 tt c.self.inside.board c.ask_export.new.self (record { pass = 0; act = act.Ask c.args.name.now; view = of_ask }) c.ask_export.result refl c.ask_export.ensures.done)
+
+pub invariant_of-self : goal.invariant_of-self
+invariant_of-self g c =
+    does_owned g.M.Media.library c.self.inside.board c.ask_export.new.self c.self.inside.media (record { pass = 0; act = act.Ask c.args.name.now; view = of_ask }) c.ask_export.result refl c.ask_export.ensures.done c.self.invariant

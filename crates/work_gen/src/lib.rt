@@ -1,0 +1,15 @@
+//! A script and a clip made from a number, for a first try of the editor.
+#![tactic(auto)]
+
+mod clip;
+mod fault;
+mod frames;
+mod make;
+mod pictures;
+mod script;
+
+pub use fault::GenerateFault;
+pub use make::{Generated, generate};
+
+#[cfg(test)]
+mod tests;

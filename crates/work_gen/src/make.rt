@@ -1,0 +1,27 @@
+//! The script and the clip.
+ghost use Rattle.work_gen.specs.Answer.{IsCount, Gives};
+
+use crate::clip::clip_file;
+use crate::fault::GenerateFault;
+use crate::script::script_text;
+use std::alloc::Global;
+
+/// A script, and the file of the clip that it names `g.mkv`.
+#[derive(Debug, Drop)]
+pub struct Generated {
+    pub script: Vec<u8>,
+    pub clip: Vec<u8>,
+}
+
+/// Makes a script, and the clip of 1 to 1,000 frames that it takes. The clip has 64 x 48 samples in 4:2:0 at 25 frames a second, coded by the
+/// range coder in 2 x 2 slices.
+///
+/// `SliceTooLong` comes exactly where a slice of a picture has more bytes than its size can say.
+pub fn generate(alloc: Global, frames: u32) -> Result<Generated, GenerateFault>
+    requires { IsCount frames }
+    ensures { Gives frames result }
+{
+    let script = script_text(alloc, frames)?;
+    let clip = clip_file(alloc, frames)?;
+    Ok(Generated { script, clip })
+}
