@@ -1,0 +1,10 @@
+pub mod Open
+pub mod Answered
+pub mod Turns
+pub mod Lines
+pub mod Counting
+pub mod Full
+pub mod NeverFull
+pub mod Calm
+pub mod Well
+pub mod EndsWell
