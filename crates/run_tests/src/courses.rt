@@ -2,7 +2,6 @@
 
 use crate::clips::{PACKET, RECORD_LEN};
 use crate::running::{Ended, NONE_FAILS, expect_run, store_of};
-use std::process::Abort;
 use std::test::Fail;
 use timeline_app::run_alone;
 use tl_ports::{MemSink, MemVault};
@@ -54,16 +53,8 @@ fn each_course(rt: HostRuntime) -> Result<(), Fail> {
     Ok(())
 }
 
-/// Three blocks: their times, and their packets, which are the clip's own.
-fn expect_blocks(rt: &impl Abort, blocks: &[u8]) {
-    for (index, time) in [0u8, 40, 80].iter().enumerate() {
-        let at = 18 * index;
-        assert!(rt; &blocks[at + 9..at + 13] == [0x81, 0, *time, 0x80].as_slice());
-        assert!(rt; &blocks[at + 13..at + 18] == PACKET.as_slice());
-    }
-}
-
-/// The exported file of three packets: where its cluster begins, and its first bytes.
+/// The exported file of three packets: where its cluster begins, its first bytes, and the times and packets of its blocks, which are the
+/// clip's own.
 #[test]
 fn exported_bytes(rt: HostRuntime) -> Result<(), Fail> {
     let alloc = rt.alloc();
@@ -74,11 +65,16 @@ fn exported_bytes(rt: HostRuntime) -> Result<(), Fail> {
     let words = vec![in alloc; String::from_str(alloc, "s")?]?;
     run_alone(alloc, &words, &mut store, &mut vault, &mut screen, &mut out);
     let file = vault.file("o.mkv").ok_or("the file is there")?;
-    assert_eq!(rt; file.len(), 261 + RECORD_LEN);
-    let cluster = 52 + 94 + RECORD_LEN;
+    assert_eq!(rt; file.len(), 284);
+    let cluster = 52 + 94 + 23;
     let first = [0x1F, 0x43, 0xB6, 0x75, 1, 0, 0, 0, 0, 0, 0, 0x40];
     assert!(rt; &file[cluster..cluster + 12] == first.as_slice());
-    expect_blocks(&rt, &file[cluster + 22..]);
+    let block = cluster + 12 + 10;
+    for (index, time) in [0u8, 40, 80].iter().enumerate() {
+        let at = block + 18 * index;
+        assert!(rt; &file[at + 9..at + 13] == [0x81, 0, *time, 0x80].as_slice());
+        assert!(rt; &file[at + 13..at + 18] == PACKET.as_slice());
+    }
     Ok(())
 }
 
