@@ -14,6 +14,8 @@ sys.path.insert(0, str(HERE.parent / "interop"))
 
 from tools import PROGRAM  # noqa: E402
 
+ALONE = ["--workers", "0"]  # the words behind a script for one thread
+
 
 class Cost(NamedTuple):
     """Seconds on the clock, bytes at the peak, and seconds of processor time."""

@@ -7,11 +7,13 @@ from pathlib import Path
 from typing import List
 
 from bad import check_bad_input
+from board_calls import check_board_calls
 from damaged_clips import check_damaged_clips
 from demo import check_demo
 from each_byte import check_each_byte
 from ends import check_ends
 from frames import check_frames, check_reader
+from generated import check_generated
 from good import check_clips
 from ids import check_ids
 from kept import check_kept
@@ -29,6 +31,7 @@ TEXT_READER = HERE.parent / "crates" / "texts_check" / "out" / "texts_check"
 
 PARTS = {
     "ids": lambda report, work: check_ids(report),
+    "board": lambda report, work: check_board_calls(report),
     "demo": check_demo,
     "clips": check_clips,
     "real": check_real,
@@ -42,6 +45,7 @@ PARTS = {
     "texts": check_texts,
     "damaged": check_damaged_clips,
     "ends": check_ends,
+    "generated": check_generated,
     "sessions": check_sessions,
 }
 

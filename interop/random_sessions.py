@@ -1,4 +1,7 @@
-"""Random scripts over small clips: lines, screen and exports of each are those of the model in `session_model`, byte by byte."""
+"""Random scripts over small clips: lines, screen and exports of each are those of the model in `session_model`, byte by byte.
+
+Each is played with several numbers of workers, but for those whose journal gets full, since what workers do takes room there too.
+"""
 
 from pathlib import Path
 from random import Random
@@ -11,8 +14,8 @@ from report import Report, differs
 from scripts import Clip as ClipLine
 from scripts import Format, LikeClip, Script, Timecode, read_script, write_script
 from session_clips import PATTERNS, Kind, encode, made
-from session_model import Outcome, Session
-from tools import BUILT, frames_of, timeline, without_ratios
+from session_model import USUAL_JOURNAL, Outcome, Session
+from tools import BUILT, WORKERS, frames_of, timeline, without_ratios
 from written import written_file
 
 SEED, SCRIPTS, TOLD = 7, 40, 3
@@ -103,8 +106,14 @@ class Drawn(NamedTuple):
     cache: int
     journal: int
 
-    def words(self) -> List[str]:
-        return ["s", "--cache", str(self.cache), "--journal", str(self.journal)]
+    def words(self, workers: int) -> List[str]:
+        return ["s", "--workers", str(workers), "--cache", str(self.cache), "--journal", str(self.journal)]
+
+    def outcome(self, media: Media) -> Outcome:
+        return Session(read_script(self.text), media, self.lists, self.cache, self.journal).run()
+
+    def workers(self) -> Sequence[int]:
+        return WORKERS if self.journal == USUAL_JOURNAL else WORKERS[:1]
 
 
 def draw(random: Random, world: World, media: Media) -> Drawn:
@@ -117,15 +126,15 @@ def draw(random: Random, world: World, media: Media) -> Drawn:
     drafter.draw(random.randint(8, 45))
     text = write_script(head._replace(body=drafter.calls)).encode()
     is_small = random.random() < 0.15
-    journal = random.randint(16, 60) if is_small else 1_000_000
+    journal = random.randint(16, 60) if is_small else USUAL_JOURNAL
     return Drawn(text, drafter.lists, random.choice((1, 2, 5, 64)), journal)
 
 
-def file_faults(folder: Path, wanted: Outcome, names: Sequence[str]) -> List[str]:
-    """What is wrong with the screen, the exports and the names of files."""
-    screen = folder / "screen.yuv"
+def file_faults(folder: Path, wanted: Outcome, found: Sequence[str], names: Sequence[str]) -> List[str]:
+    """What is wrong with the screen, by the lines that were printed, with the exports and the names of files."""
+    screen, pictures = folder / "screen.yuv", wanted.screen(found)
     shown = screen.read_bytes() if screen.exists() else b""
-    faults = ["" if shown == wanted.screen else "the screen has other pictures"]
+    faults = ["" if shown == pictures else "the screen has other pictures"]
     for number, it in enumerate(wanted.exports, 1):
         path = folder / it.file
         data = path.read_bytes() if path.exists() else None
@@ -134,35 +143,34 @@ def file_faults(folder: Path, wanted: Outcome, names: Sequence[str]) -> List[str
         elif it.is_whole and data != it.data or not it.data.startswith(data):
             faults.append(f"the export {number} is another")
     left = {it.name for it in folder.iterdir()} - set(names) - {it.file for it in wanted.exports}
-    faults.append(differs("what else is there", left - ({"screen.yuv"} if wanted.screen else set()), set()))
+    faults.append(differs("what else is there", left - ({"screen.yuv"} if pictures else set()), set()))
     return faults
 
 
-def fault_of(folder: Path, media: Media, drawn: Drawn) -> str:
-    """Plays a script in the folder of its clips, and says what is wrong."""
-    wanted = Session(read_script(drawn.text), media, drawn.lists, drawn.cache, drawn.journal).run()
+def fault_of(folder: Path, drawn: Drawn, wanted: Outcome, workers: int) -> str:
+    """Plays a script in the folder of its clips with so many workers, and says what is wrong."""
     for path in folder.iterdir():
         if not path.name.startswith("clip"):
             path.unlink()
     clips = [path.name for path in folder.iterdir()]
     for name, data in {"s": drawn.text, **drawn.lists}.items():
         (folder / name).write_bytes(data)
-    ran = timeline(drawn.words(), folder, BUILT)
-    faults = [differs("the status", ran.status, wanted.status), ran.err, *line_faults(ran.out, wanted.lines)]
-    return "; ".join(it for it in [*faults, *file_faults(folder, wanted, [*clips, "s", *drawn.lists])] if it)
+    ran = timeline(drawn.words(workers), folder, BUILT)
+    found = ran.out.splitlines()
+    faults = [differs("the status", ran.status, wanted.status), ran.err, *line_faults(found, wanted, workers)]
+    told = "; ".join(it for it in [*faults, *file_faults(folder, wanted, found, [*clips, "s", *drawn.lists])] if it)
+    return f"with {workers} workers: {told}" if told else ""
 
 
-def line_faults(out: str, wanted: Sequence[str]) -> List[str]:
-    lines = out.splitlines()
-    for number, (found, line) in enumerate(zip(lines, wanted), 1):
-        if found != line:
-            return [differs(f"line {number} of the output", found, line)]
-    return [differs("the number of lines", len(lines), len(wanted))]
+def line_faults(lines: Sequence[str], wanted: Outcome, workers: int) -> List[str]:
+    for number, (found, line) in enumerate(zip(lines, wanted.lines), 1):
+        if not (line.may_be(found) if workers else found == line.text):
+            return [differs(f"line {number} of the output", found, line.text)]
+    return [differs("the number of lines", len(lines), len(wanted.lines))]
 
 
-def decoded_fault(folder: Path, media: Media, drawn: Drawn) -> str:
+def decoded_fault(folder: Path, wanted: Outcome) -> str:
     """ffmpeg reads the last export, whose packets the writer of this folder has made: as many frames as there are packets."""
-    wanted = Session(read_script(drawn.text), media, drawn.lists, drawn.cache, drawn.journal).run()
     whole = [it for it in wanted.exports if it.is_whole]
     if not whole:
         return ""
@@ -175,14 +183,16 @@ def check_world(report: Report, number: int, world: World, folder: Path):
     media = media_of(world, [make_clip(folder, at, world) for at in range(len(world.kinds))])
     for path in folder.glob("*.raw"):
         path.unlink()
-    faults = []
+    faults, runs = [], 0
     for at in range(SCRIPTS):
         drawn = draw(Random(f"{SEED} {number} {at}"), world, media)
-        fault = fault_of(folder, media, drawn) or (decoded_fault(folder, media, drawn) if at % 10 == 0 else "")
-        if fault:
-            faults.append(f"script {at}: {fault}")
+        wanted = drawn.outcome(media)
+        told = [fault_of(folder, drawn, wanted, workers) for workers in drawn.workers()]
+        runs += len(told)
+        told.append(decoded_fault(folder, wanted) if at % 10 == 0 else "")
+        faults += [f"script {at}: {fault}" for fault in told if fault]
     more = [f"{len(faults)} in all"] if len(faults) > TOLD else []
-    report.check(f"random scripts, {world.name}: {SCRIPTS} runs", faults[:TOLD] + more)
+    report.check(f"random scripts, {world.name}: {runs} runs of {SCRIPTS}", faults[:TOLD] + more)
 
 
 def check_random_sessions(report: Report, work: Path):

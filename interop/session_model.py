@@ -1,9 +1,11 @@
 """What a session prints, shows and exports: the script of docs/SCRIPT.md over cells and frames, anew.
 
-Written from those rules, not from the program, for whose answers it stands as the measure.
+Written from those rules, not from the program, for whose answers it stands as the measure. What is printed is told as it is without
+workers. Beside them a play may say `pending` in place of its frame, or the frame where that would be pending, and the counts of wants,
+cancels and work may be others; nothing else.
 """
 
-from typing import Callable, Dict, List, NamedTuple, Tuple
+from typing import Callable, Dict, List, NamedTuple, Sequence, Tuple
 
 import edl
 from cells import Cells, Editor, by_call
@@ -24,11 +26,33 @@ class Export(NamedTuple):
     is_whole: bool
 
 
+class Line(NamedTuple):
+    """A line as it is without workers, what it may be beside them, and the picture that the screen gets where it says `frame`."""
+
+    text: str
+    others: Sequence[str] = ()
+    picture: bytes = b""
+
+    def may_be(self, found: str) -> bool:
+        return found == self.text or found in self.others
+
+
 class Outcome(NamedTuple):
-    lines: List[str]
-    screen: bytes
+    lines: List[Line]
     exports: List[Export]
     status: int
+
+    def texts(self) -> List[str]:
+        return [it.text for it in self.lines]
+
+    def screen(self, found: Sequence[str]) -> bytes:
+        """What the screen gets where these lines are printed."""
+        return b"".join(line.picture for line, it in zip(self.lines, found) if it.startswith("frame "))
+
+
+def counted(word: str, most: int) -> List[str]:
+    """The lines of a count up to so many: beside workers it depends on how far they are."""
+    return [f"{word} {count}" for count in range(most + 1)]
 
 
 class Full(Exception):
@@ -62,8 +86,7 @@ class Session:
         self.wanted: List[Recipe] = []
         self.kept: List[Recipe] = []
         self.asked: List[Tuple[str, Cells]] = []
-        self.lines: List[str] = []
-        self.screen: List[bytes] = []
+        self.lines: List[Line] = []
 
     def run(self) -> Outcome:
         status = 0
@@ -71,12 +94,15 @@ class Session:
             for call in self.script.body:
                 self.play(call)
         except Full:
-            self.lines.append(f"journal full {self.journal.length} {self.journal.owed}")
+            self.say(f"journal full {self.journal.length} {self.journal.owed}")
             status = FULL
         exports = [self.export(number, *it) for number, it in enumerate(self.asked, 1)]
         if not all(it.is_whole for it in exports):
             status = status or FAULTY_EXPORT
-        return Outcome(self.lines, b"".join(self.screen), exports, status)
+        return Outcome(self.lines, exports, status)
+
+    def say(self, text: str, others: Sequence[str] = (), picture: bytes = b""):
+        self.lines.append(Line(text, others, picture))
 
     def play(self, call: Call):
         table: Dict[str, Callable] = {
@@ -101,7 +127,7 @@ class Session:
 
     def change(self, make: Callable[[], str]):
         self.journal.enter()
-        self.lines.append(make())
+        self.say(make())
         there = {recipe_of(cell) for cell in self.editor.cells}
         self.wanted = [it for it in self.wanted if it in there]
 
@@ -113,7 +139,7 @@ class Session:
             segments = edl.build(edl.read_edl(self.lists[file], rate).events, clips)
         except edl.Fault as fault:
             self.journal.enter()
-            self.lines.append(f"edl line {fault.line} {fault.why}")
+            self.say(f"edl line {fault.line} {fault.why}")
             return
         self.change(lambda: self.editor.edit(lambda it: it.replace(segments)))
 
@@ -134,14 +160,14 @@ class Session:
         for it in recipes:
             if it not in self.kept and it not in self.wanted:
                 self.wanted.append(it)
-        self.lines.append(f"wanted {len(self.wanted) - before}" if recipes else self.past())
+        self.tell_count("wanted", len(self.wanted) - before, recipes)
 
     def cancel(self, first: int, count: int):
         self.journal.enter()
         before = len(self.wanted)
         recipes = self.range(first, count)
         self.wanted = [it for it in self.wanted if it not in recipes]
-        self.lines.append(f"cancelled {before - len(self.wanted)}" if recipes else self.past())
+        self.tell_count("cancelled", before - len(self.wanted), recipes)
 
     def work(self, turns: int):
         """Turns of work, each of which renders what was asked for first and keeps it."""
@@ -155,15 +181,18 @@ class Session:
                 self.journal.enter_owed()
                 filed += 1
         finally:
-            self.lines.append(f"worked {filed}")
+            self.say(f"worked {filed}", counted("worked", turns))
 
-    def seen(self, frame: int, recipe: Recipe):
-        picture = self.media.render(recipe)
-        if isinstance(picture, Damage):
-            self.lines.append(f"fault {frame} {picture.kind}")
+    def tell_count(self, word: str, count: int, recipes: List[Recipe]):
+        if recipes:
+            self.say(f"{word} {count}", counted(word, len(set(recipes))))
         else:
-            self.screen.append(picture)
-            self.lines.append(f"frame {frame}")
+            self.say(self.past())
+
+    def given(self, frame: int, recipe: Recipe) -> Tuple[str, bytes]:
+        """The line where a frame is given, and its picture."""
+        picture = self.media.render(recipe)
+        return (f"fault {frame} {picture.kind}", b"") if isinstance(picture, Damage) else (f"frame {frame}", picture)
 
     def to_front(self, recipe: Recipe) -> bool:
         """Whether a recipe is kept; it is then the latest."""
@@ -177,20 +206,22 @@ class Session:
         self.journal.enter()
         recipes = self.range(frame, 1)
         if not recipes:
-            self.lines.append(self.past())
-        elif self.to_front(recipes[0]):
-            self.seen(frame, recipes[0])
-        else:
-            self.lines.append(f"pending {frame}")
+            self.say(self.past())
+            return
+        given, picture = self.given(frame, recipes[0])
+        pending = f"pending {frame}"
+        text, other = (given, pending) if self.to_front(recipes[0]) else (pending, given)
+        self.say(text, [other], picture)
 
     def show(self, frame: int):
         self.journal.enter()
         recipes = self.range(frame, 1)
         if not recipes:
-            self.lines.append(self.past())
-        else:
-            self.to_front(recipes[0])
-            self.seen(frame, recipes[0])
+            self.say(self.past())
+            return
+        self.to_front(recipes[0])
+        given, picture = self.given(frame, recipes[0])
+        self.say(given, picture=picture)
 
     def roll(self, first: int, count: int):
         self.want(first, min(AHEAD, count))
@@ -206,17 +237,17 @@ class Session:
         self.journal.enter(2 if cells else 0)
         if cells:
             self.asked.append((file, cells))
-        self.lines.append(f"asked {len(self.asked)}" if cells else "refused EmptyTimeline")
+        self.say(f"asked {len(self.asked)}" if cells else "refused EmptyTimeline")
 
     def export(self, number: int, file: str, cells: Cells) -> Export:
         packets = []
         for at, cell in enumerate(cells):
             packet = self.media.packet(recipe_of(cell))
             if isinstance(packet, Damage):
-                self.lines.append(f"export {number} fault {at} {packet.clip} {packet.frame} {packet.kind}")
+                self.say(f"export {number} fault {at} {packet.clip} {packet.frame} {packet.kind}")
                 return Export(file, self.file_of(packets), False)
             packets.append(packet)
-        self.lines.append(f"export {number} done {len(packets)}")
+        self.say(f"export {number} done {len(packets)}")
         return Export(file, self.file_of(packets), True)
 
     def file_of(self, packets: List[bytes]) -> bytes:

@@ -1,5 +1,6 @@
 """The realistic session: a list with a cut and a dissolve over two clips of 50 frames, at a broadcast size and over a dozen pairs of
-small ones; its frames shown, its exports cut again, and a damaged packet at each kind of place.
+small ones; its frames shown, its exports cut again, and a damaged packet at each kind of place. All of it is played with several numbers
+of workers, and each time lines, status and files are the same.
 
 The first 25 frames of the export are the first clip's packets. Ten frames blend it, as it goes on, with the second clip from its first
 frame on; then come the frames 10 to 24 of that one. Pictures are ffmpeg's, and a blend is what this script makes of ffmpeg's.
@@ -15,12 +16,14 @@ from ffv1_record import read_record
 from frame_clips import decode
 from media import blended
 from random_sessions import check_random_sessions
+from repeated import check_repeated
 from report import Report, differs
 from session_clips import RATE, Kind, Made, as_in_an_archive, encode, made
-from tools import changed, frames_of, mkvinfo, sums_of, timeline, without_ratios
+from tools import BUILT, WORKERS, changed, frames_of, mkvinfo, sums_of, timeline, without_ratios
 from written import block_time, written_file
 
 FRAMES, CUT, STEPS, LENGTH = 50, 25, 10, 50
+WORKERS_OF_LARGE = (0, 2)
 EDIT_LIST = """TITLE: FINAL
 FCM: NON-DROP FRAME
 001  AX       V     C        00:00:00:00 00:00:01:00 01:00:00:00 01:00:01:00
@@ -81,6 +84,7 @@ class Ground(NamedTuple):
     first: Made
     second: Made
     wanted: Sequence[bytes]
+    workers: Sequence[int] = WORKERS
 
 
 def wanted_frames(first: Sequence[bytes], second: Sequence[bytes]) -> List[bytes]:
@@ -97,24 +101,31 @@ def lay(pair: Pair, folder: Path) -> Ground:
     for name in ("a", "b"):
         (folder / f"{name}.raw").unlink()
     (folder / "cut.edl").write_text(EDIT_LIST)
-    return Ground(folder, first, second, wanted_frames(first.frames, second.frames))
+    workers = WORKERS_OF_LARGE if pair == BROADCAST else WORKERS
+    return Ground(folder, first, second, wanted_frames(first.frames, second.frames), workers)
 
 
 def write_script(folder: Path, *lines: str):
     (folder / "s").write_text("".join(f"{it}\n" for it in lines))
 
 
-def run_script(folder: Path, wanted: Sequence[str], status: int, writes: Sequence[str]) -> List[str]:
-    """Runs the script `s`, and says what differs from these lines, this status and these files."""
-    before = sums_of(folder)
-    ran = timeline(["s"], folder)
-    said = [differs("the status", ran.status, status), differs("the output", ran.out.splitlines(), list(wanted)), ran.err]
-    return [*said, changed(before, sums_of(folder), writes)]
+def run_script(it: Ground, wanted: Sequence[str], status: int, writes: Sequence[str]) -> List[str]:
+    """Runs the script `s`, and says what differs from these lines, this status and these files, and which files are others with more
+    workers."""
+    before, made, faults = sums_of(it.folder), [], []
+    for workers in it.workers:
+        ran = timeline(["s", "--workers", str(workers)], it.folder, BUILT)
+        after = sums_of(it.folder)
+        made.append([after.get(name) for name in writes])
+        told = [differs("the status", ran.status, status), differs("the output", ran.out.splitlines(), list(wanted)), ran.err]
+        told += [changed(before, after, writes), "" if made[-1] == made[0] else "the files aren't those of the first run"]
+        faults += [f"with {workers} workers: {fault}" for fault in told if fault]
+    return faults
 
 
 def check_export(report: Report, name: str, pair: Pair, it: Ground):
     write_script(it.folder, *HEAD, "export final.mkv")
-    report.check(f"{name}: lines and status", run_script(it.folder, ["ok 50", "asked 1", "export 1 done 50"], 0, ["final.mkv"]))
+    report.check(f"{name}: lines and status", run_script(it, ["ok 50", "asked 1", "export 1 done 50"], 0, ["final.mkv"]))
     export = it.folder / "final.mkv"
     if not export.exists():
         report.check(f"{name}: the export", "there is none")
@@ -148,7 +159,7 @@ def check_shown(report: Report, name: str, it: Ground):
     """Each frame is shown, from the last one on."""
     order = range(LENGTH - 1, -1, -1)
     write_script(it.folder, *HEAD, *(f"show {at}" for at in order))
-    faults = run_script(it.folder, ["ok 50", *(f"frame {at}" for at in order)], 0, ["screen.yuv"])
+    faults = run_script(it, ["ok 50", *(f"frame {at}" for at in order)], 0, ["screen.yuv"])
     screen, size = it.folder / "screen.yuv", len(it.wanted[0])
     shown = screen.read_bytes() if screen.exists() else b""
     faults.append(differs("the number of bytes", len(shown), size * LENGTH))
@@ -165,7 +176,7 @@ def check_cut_again(report: Report, name: str, it: Ground):
     packets = reader.read_clip(reader.view_of(it.folder / "final.mkv")).packets()
     for file, export, first, length in (("final.mkv", "part.mkv", 20, 20), ("part.mkv", "less.mkv", 3, 14)):
         write_script(it.folder, "rate 25", f"clip C {file}", "format as C", f"insert 0 C {first} {length}", f"export {export}")
-        faults = run_script(it.folder, [f"ok {length}", "asked 1", f"export 1 done {length}"], 0, [export])
+        faults = run_script(it, [f"ok {length}", "asked 1", f"export 1 done {length}"], 0, [export])
         packets = packets[first : first + length]
         path = it.folder / export
         found = reader.read_clip(reader.view_of(path)).packets() if path.exists() else []
@@ -213,7 +224,7 @@ def broken_run(it: Ground, damage: Damage, kind: str, whole: bytes) -> List[str]
     write_script(it.folder, *HEAD, f"show {at}", f"show {next_one}", "export broken.mkv", f"extract {at} 1", "export mended.mkv")
     fault = f"export 1 fault {at} {damage.clip} {damage.frame} {kind}"
     lines = ["ok 50", f"fault {at} {kind}", f"frame {next_one}", "asked 1", "ok 49", "asked 2", fault, "export 2 done 49"]
-    faults = run_script(it.folder, lines, 7, ["screen.yuv", "broken.mkv", "mended.mkv"])
+    faults = run_script(it, lines, 7, ["screen.yuv", "broken.mkv", "mended.mkv"])
     made_files = {name: it.folder / name for name in ("broken.mkv", "mended.mkv", "screen.yuv")}
     content = {name: path.read_bytes() if path.exists() else None for name, path in made_files.items()}
     faults.append("" if content["screen.yuv"] == it.wanted[next_one] else "the screen has another picture")
@@ -244,3 +255,4 @@ def check_sessions(report: Report, work: Path):
     for number, pair in enumerate([BROADCAST, *small_pairs()]):
         check_pair(report, pair, work / "sessions" / str(number))
     check_random_sessions(report, work / "random")
+    check_repeated(report, work / "repeated")

@@ -12,6 +12,7 @@ PROGRAM = os.environ.get("TIMELINE_PROGRAM") or str(HERE.parent / "timeline")
 # The program without its launcher, which looks at all sources before each run.
 BUILT = os.environ.get("TIMELINE_PROGRAM") or str(HERE.parent / "crates" / "timeline_main" / "out" / "timeline_main")
 SECONDS, TIMED_OUT = 60, 124
+WORKERS = (0, 1, 2, 16)  # the numbers of workers that sessions are played with
 
 
 class Ran(NamedTuple):

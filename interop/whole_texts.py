@@ -60,7 +60,7 @@ def check_lists(report: Report, work: Path):
             (folder / file).write_bytes(data)
         text = session_of(rate, lists, names)
         (folder / "s").write_text(text)
-        wanted = Session(scripts.read_script(text.encode()), media, lists).run().lines
+        wanted = Session(scripts.read_script(text.encode()), media, lists).run().texts()
         found = timeline(["s"], folder, BUILT).out.splitlines()
         faults = [differs(file, *it) for file, *it in zip(lists, found, wanted) if it[0] != it[1]]
         kinds = Counter(" ".join(it.split()[:1] + it.split()[-1:]) if it.startswith("edl") else it.split()[0] for it in wanted)

@@ -80,6 +80,16 @@ row_done tables r x width zeros old run states bits all wide few read =
       left = ap (λ k. coding_ahead k run states bits) none ∙ sym (none-ahead run states bits);
     }
 
+-- a sample whose difference can't be read now
+pub none_now : (tables : List (List ℤ)) (n : Near) (c : ℤ) (x left zeros : ℕ) (run : Run) (states : List State) (r : Reading) → zeros ≤ 0
+    → c ≡ context tables n → to_z w32 (of_z w32 c) ≡ c → x ≡ nat_abs (to_z w32 (of_z w32 c))
+    → sample_at left x (coding (source run r) states) ≡ None
+    → sample_at left (nat_abs (context tables n)) (coding_ahead zeros run states r) ≡ None
+none_now tables n c x left zeros run states r none is fits at read =
+    let here : to_z w32 (of_z w32 c) ≡ context tables n = fits ∙ is in
+    ap (λ k. sample_at left k (coding_ahead zeros run states r)) (sym (ap nat_abs here) ∙ sym at)
+    ∙ ap (λ (v : Coding). sample_at left x v) (sym (none_left zeros run states r none)) ∙ read
+
 -- a sample whose difference is read now
 pub sample_now : (tables : List (List ℤ)) (n : Near) (c d wide : ℤ) (x sample left zeros : ℕ) (run : Run) (states : List State) (r : Reading) (new : Coding) → zeros ≤ 0
     → c ≡ context tables n → to_z w32 (of_z w32 c) ≡ c → x ≡ nat_abs (to_z w32 (of_z w32 c)) → nat_abs d < 256 → wide ≡ to_z w32 (of_z w32 d)

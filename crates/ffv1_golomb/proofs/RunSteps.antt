@@ -10,7 +10,7 @@ use Rattle.ffv1_rice.specs.Bits.{Reading}
 use Rattle.ffv1_rice.specs.State as states
 use Rattle.ffv1_rice.specs.Runs.{Run, Source, Coding, source, coding, at_sample, zeros, after_run, stepped, next_step, difference_by, raised, sample_at, FitsLine}
 use Rattle.ffv1_rice.proofs.LineLemmas.{difference-step, after-step}
-use Rattle.ffv1_golomb.specs.Ahead.{coding_ahead, zeros_of, raising, IsInRun}
+use Rattle.ffv1_golomb.specs.Ahead.{coding_ahead, zeros_of, raising, IsInRun, is_outside}
 
 abbrev run_with : Mode → ℕ → ℕ → Run
 run_with mode count index = record { mode = mode; count = count; index = index }
@@ -36,6 +36,25 @@ unfolding sample_at next_step zeros
 zero-sample mode left x n i all r h =
     let e : suc n - min (suc n) 1 ≡ n = omega arith in
     rw (arrived mode left (x == 0) n i r h, stepped-run mode 1 n (source (run_with mode (suc n) i) r) h) (ap (λ k. Some (pos 0, coding_with mode k i all r)) e)
+
+-- outside of a run, at a context that isn't 0
+outside-told : (mode : Mode) (left count index : ℕ) (r : Reading) → mode ≡ Outside →
+    next_step left left false (source (run_with mode count index) r) ≡ (Difference, source (run_with mode count index) r)
+unfolding next_step at_sample
+outside-told Outside left count index r is = refl
+outside-told Running left count index r is = absurd (cc)
+outside-told Ending left count index r is = absurd (cc)
+
+not_none : (x : ℕ) → 0 < x → (x == 0) ≡ false
+not_none x some = grind arith
+
+pub outside-is : (mode : Mode) → true ≡ is_outside mode → mode ≡ Outside
+outside-is Outside is = refl
+outside-is Running is = absurd (cc)
+outside-is Ending is = absurd (cc)
+
+pub outside-step : (left x : ℕ) (s : Source) → s.run.mode ≡ Outside → 0 < x → next_step left left (x == 0) s ≡ (Difference, s)
+outside-step left x s is some = rw (not_none x some) (outside-told s.run.mode left s.run.count s.run.index s.reading is)
 
 -- a sample that was taken before
 pub zero-ahead : (left x count : ℕ) (run : Run) (all : List states.State) (r : Reading) → 0 < count → IsInRun run.mode →

@@ -1,5 +1,5 @@
 -- What a reader's loop keeps of a run that has samples ahead.
-use Rattle.std.specs.Prelude.{ℕ, ◌+◌, List, ℤ}
+use Rattle.std.specs.Prelude.{ℕ, ◌+◌, List, ℤ, Bool, true, false}
 use Rattle.ffv1_rice.specs.declared.runs.Mode.{Mode}
 use Rattle.ffv1_rice.specs.declared.runs.Mode.TheVariants.{Outside, Running, Ending}
 use Rattle.ffv1_rice.specs.declared.runs.Step.{Step}
@@ -21,6 +21,12 @@ abbrev pub IsInRun : Mode → Type 0
 IsInRun Outside = ⊥
 IsInRun Running = Unit {0}
 IsInRun Ending = Unit {0}
+
+-- whether it doesn't
+abbrev pub is_outside : Mode → Bool
+is_outside Outside = true
+is_outside Running = false
+is_outside Ending = false
 
 -- how many samples a step takes of a run, and what it makes of a difference that it reads
 abbrev pub zeros_of : Step → ℕ

@@ -5,20 +5,20 @@ ghost use Rattle.ffv1_predict.specs.Near.{context, AreNear};
 ghost use Rattle.ffv1_predict.specs.Border.{rows};
 ghost use Rattle.ffv1_slice.specs.Reading.{ContextsFit};
 ghost use Rattle.ffv1_golomb.specs.Reading.{line, ReadsSample, ReadsRow, OutOfRangeInRow};
-ghost use Rattle.ffv1_golomb.specs.Ahead.{coding_ahead, zeros_of, raising, IsInRun};
+ghost use Rattle.ffv1_golomb.specs.Ahead.{coding_ahead, zeros_of, raising, IsInRun, is_outside};
 
 use ffv1_predict::{Left, Near};
-use ffv1_rice::{BitReader, OutOfRange, RunReader, Step, VlcState, raise};
+use ffv1_rice::{BitReader, Mode, OutOfRange, RunReader, Step, VlcState, raise};
 
 /// The difference of a sample, and how many samples behind it lie in a run.
 #[derive(Clone, Copy)]
 struct Found {
     difference: i32,
-    zeros: u32,
+    zeros: usize,
 }
 
-// Reads the difference of a sample in a context, where so many samples are left in the line.
-#[inline(always)]
+// Reads the difference of a sample in a context, where so many samples are left in the line, and a run goes on or may begin.
+#[inline(never)]
 fn read_difference(
     bits: &mut BitReader,
     run: &mut RunReader,
@@ -41,7 +41,7 @@ fn read_difference(
     if count > 0 {
         return Ok(Found {
             difference: 0,
-            zeros: count - 1,
+            zeros: (count - 1) as usize,
         });
     }
     let difference = states[context].read(bits)?;
@@ -49,6 +49,18 @@ fn read_difference(
         difference: raise_by(step, difference),
         zeros: 0,
     })
+}
+
+// Whether no run goes on.
+#[inline(always)]
+fn is_outside(mode: Mode) -> bool
+    ensures { result ≡ is_outside mode }
+{
+    match mode {
+        Mode::Outside => true,
+        Mode::Running => false,
+        Mode::Ending => false,
+    }
 }
 
 // How many samples a step takes of a run.
@@ -83,7 +95,7 @@ fn raise_by(step: Step, difference: i32) -> i32
 #[derive(Clone, Copy)]
 struct Seen {
     sample: u8,
-    zeros: u32,
+    zeros: usize,
 }
 
 // Reads a sample where so many are left in the line, of which so many from this one on lie in a run that was read.
@@ -96,7 +108,7 @@ fn read_sample(
     far: bool,
     near: Near,
     left: u32,
-    zeros: u32,
+    zeros: usize,
 ) -> Result<Seen, OutOfRange>
     requires far { far ≡ false → AreNear tables.now }
     requires fit { ContextsFit tables.now (length states.old) }
@@ -112,14 +124,23 @@ fn read_sample(
     ensures in_run { IfOk result (λ seen. 0 < seen.zeros → IsInRun run.new.mode) }
     ensures fits { IfOk result (λ seen. seen.zeros < left) }
 {
+    let predicted = near.restored(0, 0);
     if zeros > 0 {
         return Ok(Seen {
-            sample: near.restored(0, 0),
+            sample: predicted,
             zeros: zeros - 1,
         });
     }
     let context = near.context_by(tables, far);
-    let found = read_difference(bits, run, states, context.unsigned_abs() as usize, left)?;
+    let magnitude = context.unsigned_abs() as usize;
+    if magnitude > 0 && is_outside(run.mode()) {
+        let difference = states[magnitude].read(bits)?;
+        return Ok(Seen {
+            sample: near.restored(context, i64::from(difference)),
+            zeros: 0,
+        });
+    }
+    let found = read_difference(bits, run, states, magnitude, left)?;
     Ok(Seen {
         sample: near.restored(context, i64::from(found.difference)),
         zeros: found.zeros,

@@ -38,7 +38,7 @@ pub(crate) fn code_of(word: u64, k: u32) -> Coded
     let length = zeros + 1 + k;
     let one = power(k);
     Coded {
-        number: highest(word, length) + zeros * one - one,
+        number: leading(word, length) + zeros * one - one,
         length,
     }
 }
@@ -69,6 +69,17 @@ pub(crate) fn highest(word: u64, count: u32) -> u32
     ensures fits { result < 2 ^ count }
 {
     ((word >> 32) >> (32 - count)) as u32
+}
+
+// The same, of at least one bit: by one shift.
+#[inline(always)]
+fn leading(word: u64, count: u32) -> u32
+    requires some { 0 < count }
+    requires few { count ≤ 32 }
+    ensures number { result ≡ word / 2 ^ (64 - count) }
+    ensures fits { result < 2 ^ count }
+{
+    (word >> (64 - count)) as u32
 }
 
 #[inline(always)]

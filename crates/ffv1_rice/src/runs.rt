@@ -80,6 +80,14 @@ impl RunReader {
         }
     }
 
+    /// The mode of the run.
+    #[inline(always)]
+    pub fn mode(&self) -> Mode
+        ensures { result ≡ self.now.mode }
+    {
+        self.at.mode
+    }
+
     /// Begins a line: only the run index goes on.
     #[tactic(auto, unfolding(crate::specs::Runs::line_run))]
     pub fn start_line(&mut self)

@@ -178,7 +178,7 @@ fn leans_low(drift: i32, count: u32) -> bool
     requires most { drift ≤ℤ pos 127 }
     ensures { result ≡ int_lt (pos 2 *ℤ drift) (neg_ℤ (pos count)) }
 {
-    2 * drift < -(count as i32)
+    2 * drift + (count as i32) < 0
 }
 
 // Brings a state up to date with a residual.

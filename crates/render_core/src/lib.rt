@@ -19,6 +19,3 @@ pub use reply::{
     AskReply, CancelReply, ClaimReply, FileReply, Full, PlayReply, ReleaseReply, ShowReply,
     TakeReply, WantReply,
 };
-
-#[cfg(test)]
-mod tests;

@@ -1,8 +1,8 @@
 -- What doesn't come where no count rises and the store holds what is asked for.
-use Rattle.std.proofs.Common.{◌≡◌, ℕ, ◌+◌, ◌-◌, ◌<◌, ◌≤◌, ◌^◌, min, Bool, true, false, ◌||◌, List, [], ◌∷◌, ◌++◌, map, length, Option, Some, None, Result, Ok, Err, ◌⊎◌, inl, inr, refl, sym, ap, subst, ◌∙◌, arith, true≢false}
-use Rattle.std.specs.Prelude.{IsTrue, IsSome}
+use Rattle.std.proofs.Common.{◌≡◌, ℕ, ◌+◌, ◌-◌, ◌<◌, ◌≤◌, ◌^◌, min, Bool, false, ◌||◌, List, [], ◌∷◌, ◌++◌, map, length, Option, Some, None, Result, Ok, Err, inl, inr, refl, sym, ap, subst, ◌∙◌, arith, true≢false}
+use Rattle.std.specs.Prelude.{IsSome}
 use Rattle.std.specs.List.{AllByRecursion, list_any}
-use Rattle.tl_model.specs.Cells.{Cell, recipes}
+use Rattle.tl_model.specs.Cells.{recipes}
 use Rattle.tl_model.specs.Media.{Library}
 use Rattle.tl_model.specs.declared.fault.Ending.{Ending}
 use Rattle.tl_model.specs.declared.fault.Ending.TheVariants as ending

@@ -1,12 +1,9 @@
 -- A run over a sound outside succeeds, but for want of memory.
-use Rattle.std.proofs.Common.{◌≡◌, ℕ, ◌≤◌, Bool, true, false, List, [], ◌∷◌, ◌++◌, Option, Some, None, Result, Ok, Err, ◌⊎◌, inl, inr, refl, sym, ap, subst, ◌∙◌, true≢false}
-use Rattle.std.specs.Prelude.{IsTrue}
+use Rattle.std.proofs.Common.{◌≡◌, ℕ, ◌≤◌, Bool, true, false, List, [], ◌∷◌, ◌++◌, Option, Some, Result, Ok, Err, ◌⊎◌, inl, inr, refl, sym, ap, subst, ◌∙◌, true≢false}
 use Rattle.std.specs.List.{AllByRecursion}
 use Rattle.tl_ports.specs.declared.fault.PutFault.{PutFault}
 use Rattle.tl_ports.specs.declared.fault.PutFault.TheVariants as putting
-use Rattle.tl_ports.specs.Seen.{Outside, SinkSeen, StoreSeen, Telling}
-use Rattle.edit_desk.specs.Desk.{state_of}
-use Rattle.clip_store.specs.Render.{library_of}
+use Rattle.tl_ports.specs.Seen.{SinkSeen, StoreSeen}
 use Rattle.script_lang.specs.declared.out_line.OutLine.{OutLine}
 use Rattle.script_lang.specs.declared.out_line.OutLine.TheVariants as out
 use Rattle.script_lang.specs.declared.script.BodyLine.{BodyLine}
@@ -17,17 +14,19 @@ use Rattle.timeline_app.specs.declared.outcome.Outcome.{Outcome}
 use Rattle.timeline_app.specs.declared.session.HeadStop.{HeadStop}
 use Rattle.timeline_app.specs.declared.session.HeadStop.TheVariants as stop
 use Rattle.timeline_app.specs.declared.words.Asked.{Asked}
+use Rattle.timeline_app.specs.Course.{session_at}
 use Rattle.timeline_app.specs.Ending.{status_unless}
 use Rattle.timeline_app.specs.Head.{head_line, head_status}
+use Rattle.timeline_app.specs.Made.{Around}
 use Rattle.timeline_app.specs.Opening.{IsHeadCause, IsOpened}
-use Rattle.timeline_app.specs.Runs.{EndsEarly, Misuses, Ran, Runs, RunsAsked, desk_at, program_of, session_at}
-use Rattle.timeline_app.specs.Session.{Fetching, IsHead, Opens, StopsAmong, StopsReading, clip_at, fetched_by, text_at}
-use Rattle.timeline_app.specs.Words.{AsksFor, is_of_form}
+use Rattle.timeline_app.specs.Runs.{EndsEarly, Misuses, RunsAsked, desk_at, program_of}
+use Rattle.timeline_app.specs.Session.{IsHead, Opens, StopsAmong, clip_at, fetched_by, text_at}
+use Rattle.timeline_app.specs.Words.{is_of_form}
 use Rattle.run_laws.specs.Law.{EndsWell}
-use Rattle.run_laws.specs.Room.{room}
-use Rattle.run_laws.specs.Sound.{HoldsFile, HoldsList, HoldsScript, IsReady, IsSound, Stays}
+use Rattle.run_laws.specs.Room.{room, workers_in}
+use Rattle.run_laws.specs.Sound.{HoldsFile, HoldsList, HoldsScript, IsSoundOver, Stays}
 use Rattle.run_laws.proofs.Calm.{among, held_fetches}
-use Rattle.run_laws.proofs.Well.{IsSoundFor, IsWell, course_well}
+use Rattle.run_laws.proofs.Well.{IsWell, course_well}
 
 -- ---- a run that isn't begun
 
@@ -93,30 +92,32 @@ module _ (old new : StoreSeen) (name : List ℕ) (head : Script) (holds : HoldsS
 
 -- ---- the run
 
-misuse_well : (form : Bool) (old new : Outside) (tells : Telling) (outcome : Outcome) → form ≡ true → Misuses form old new tells outcome → IsWell outcome.status
-misuse_well form old new tells outcome formed m = by_line m.says
+misuse_well : (form : Bool) (around : Around) (outcome : Outcome) → form ≡ true → Misuses form around outcome → IsWell outcome.status
+misuse_well form around outcome formed m = by_line m.says
   where
-    by_line : ((form ≡ false) × EndsEarly tells.out old.out new.out (out.Usage, 2) outcome) ⊎ EndsEarly tells.out old.out new.out (out.NoMemory, 5) outcome → IsWell outcome.status
+    by_line : ((form ≡ false) × EndsEarly around.tells.out around.old.out around.new.out (out.Usage, 2) outcome)
+        ⊎ EndsEarly around.tells.out around.old.out around.new.out (out.NoMemory, 5) outcome → IsWell outcome.status
     by_line (inl h) = absurd (true≢false (sym formed ∙ h.0))
-    by_line (inr h) = memory_well tells.out old.out new.out out.NoMemory outcome h
+    by_line (inr h) = memory_well around.tells.out around.old.out around.new.out out.NoMemory outcome h
 
-asked_well : (words : List (List ℕ)) (old new : Outside) (tells : Telling) (outcome : Outcome) (asked : Asked) → AsksFor words asked → RunsAsked asked old new tells outcome
-    → IsSound words old new tells outcome → IsWell outcome.status
-asked_well words old new tells outcome asked asks (inl u) sound =
-    let ready = sound.ready asked asks in
-    let cause = subst (λ (b : Bool). IsHeadCause (fetched_by b old.store new.store) asked.script.now u.why) sound.told u.cause in
-    head_well old.store new.store asked.script.now ready.head ready.holds sound.calm.store ready.clips tells.out old.out new.out outcome u.why cause u.says
-asked_well words old new tells outcome asked asks (inr r) sound =
-    let ready = sound.ready asked asks in
-    let is = subst (λ (b : Bool). IsOpened (fetched_by b old.store old.store) asked.script.now r.opening) sound.told r.is in
-    let head = head_is old.store old.store asked.script.now ready.head ready.holds r.opening.script is.opens.0 in
-    let fits = subst (λ (h : Script). room h.body ≤ asked.journal) (sym head) ready.fits in
-    let lists = subst (λ (h : Script). AllByRecursion (λ (line : BodyLine). HoldsList old.store line.call) h.body) (sym head) ready.holds.lists in
-    course_well (program_of r.opening old.store.file tells) (session_at (desk_at asked r.opening.library []) old)
-    (session_at (desk_at asked r.opening.library outcome.journal) new) r.course outcome.status r.runs r.alone fits
+asked_well : (others : ℕ) (asked : Asked) (over : Around) (outcome : Outcome) → RunsAsked others asked over outcome
+    → IsSoundOver others asked over outcome → IsWell outcome.status
+asked_well others asked over outcome (inl u) sound =
+    let cause = subst (λ (b : Bool). IsHeadCause (fetched_by b over.old.store over.new.store) asked.script.now u.why) sound.told u.cause in
+    head_well over.old.store over.new.store asked.script.now sound.ready.head sound.ready.holds sound.calm.store sound.ready.clips
+    over.tells.out over.old.out over.new.out outcome u.why cause u.says
+asked_well others asked over outcome (inr r) sound =
+    let ready = sound.ready in
+    let is = subst (λ (b : Bool). IsOpened (fetched_by b over.old.store over.old.store) asked.script.now r.opening) sound.told r.is in
+    let head = head_is over.old.store over.old.store asked.script.now ready.head ready.holds r.opening.script is.opens.0 in
+    let fits = subst (λ (h : Script). room (workers_in others) h.body ≤ asked.journal) (sym head) ready.fits in
+    let lists = subst (λ (h : Script). AllByRecursion (λ (line : BodyLine). HoldsList over.old.store line.call) h.body) (sym head) ready.holds.lists in
+    course_well (program_of r.opening others over) (session_at (desk_at asked r.opening.library []) over.old)
+    (session_at (desk_at asked r.opening.library outcome.journal) over.new) r.course outcome.status r.runs refl fits
     (record { store = sound.calm.store; screen = sound.calm.screen; out = sound.calm.out; lists = lists }) sound.calm.vault
-    (sound.packets asked r.opening asks is)
+    (sound.packets r.opening is)
 
 pub ends_well : EndsWell
-ends_well words old new tells outcome (inl m) sound = misuse_well (is_of_form words) old new tells outcome sound.form m
-ends_well words old new tells outcome (inr (asked, asks, runs)) sound = asked_well words old new tells outcome asked asks runs sound
+ends_well others words around outcome (inl m) sound = misuse_well (is_of_form words) around outcome sound.form m
+ends_well others words around outcome (inr (asked, asks, (over, is_over, runs))) sound =
+    asked_well (others asked.workers) asked over outcome runs (sound.sound asked over asks is_over)

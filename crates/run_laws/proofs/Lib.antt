@@ -1,6 +1,7 @@
-pub mod Open
-pub mod Answered
+pub mod Level
+pub mod Entries
 pub mod Turns
+pub mod Passes
 pub mod Lines
 pub mod Counting
 pub mod Full

@@ -1,5 +1,5 @@
--- How many entries a script's session needs at most.
-use Rattle.std.specs.Prelude.{ℕ, ◌+◌, ◌*◌, Bool, true, false, List, length, map}
+-- How many entries the session of a script needs at most, with the workers that it has.
+use Rattle.std.specs.Prelude.{ℕ, ◌+◌, ◌*◌, ◌-◌, Bool, true, false, List, length}
 use Rattle.std.specs.List.{count_by, sum_by}
 use Rattle.tl_model.specs.declared.journal.Act.{Act}
 use Rattle.tl_model.specs.declared.journal.Act.TheVariants as act
@@ -32,8 +32,12 @@ abbrev pub is_export : Call → Bool
 is_export (call.Export file) = true
 is_export other = false
 
--- The stop, the calls of the lines, for each frame that is wanted a claim and its end, for each line of work one more of these, for a job
--- that is given back, and for each export its take and its end.
-abbrev pub room : List BodyLine → ℕ
-room body = 1 + sum_by (λ line. call_count line.call) body + 2 * sum_by (λ line. wanted line.call) body
-    + 2 * count_by (λ line. is_work line.call) body + 2 * count_by (λ line. is_export line.call) body
+-- How many workers there are among so many passes beside main's: all but the exporter. Where there is no pass, none.
+abbrev pub workers_in : (others : ℕ) → ℕ
+workers_in others = others - 1
+
+-- The stop, the calls of the lines, for each frame that is wanted a claim and its end, for each worker and each line of work one more of
+-- these, for a job that is given back, and for each export its take and its end.
+abbrev pub room : (workers : ℕ) → List BodyLine → ℕ
+room workers body = 1 + sum_by (λ line. call_count line.call) body + 2 * sum_by (λ line. wanted line.call) body
+    + 2 * (workers + count_by (λ line. is_work line.call) body) + 2 * count_by (λ line. is_export line.call) body

@@ -1,12 +1,12 @@
 -- A sound outside of a run: its store tells what the script asks for, no call to it fails, and each frame that is exported has a packet.
-use Rattle.std.specs.Prelude.{◌≡◌, ℕ, ◌-◌, ◌<◌, ◌≤◌, ◌^◌, IsTrue, IsSome, List, [], length, Some, Ok, true}
+use Rattle.std.specs.Prelude.{◌≡◌, ℕ, ◌-◌, ◌<◌, ◌≤◌, ◌^◌, IsSome, List, length, Some, Ok, true}
 use Rattle.std.specs.List.{AllByRecursion}
 use Rattle.tl_limits.specs.Limits.{max_text_bytes}
 use Rattle.tl_model.specs.Cells.{recipes}
 use Rattle.tl_model.specs.Media.{Library}
 use Rattle.tl_model.specs.declared.recipe.Recipe.{Recipe}
 use Rattle.tl_ports.specs.Outside.{Wanted}
-use Rattle.tl_ports.specs.Seen.{Outside, StoreSeen, Telling}
+use Rattle.tl_ports.specs.Seen.{Outside, StoreSeen}
 use Rattle.render_core.specs.Export.{ExportOf}
 use Rattle.edit_desk.specs.Desk.{state_of}
 use Rattle.clip_store.specs.Render.{library_of}
@@ -22,11 +22,12 @@ use Rattle.timeline_app.specs.declared.opening.Opening.{Opening}
 use Rattle.timeline_app.specs.declared.outcome.Outcome.{Outcome}
 use Rattle.timeline_app.specs.declared.session.HeadStop.TheVariants as stop
 use Rattle.timeline_app.specs.declared.words.Asked.{Asked}
+use Rattle.timeline_app.specs.Made.{Around, IsOver}
 use Rattle.timeline_app.specs.Opening.{IsOpened}
 use Rattle.timeline_app.specs.Runs.{desk_at}
 use Rattle.timeline_app.specs.Session.{StopsAmong, clip_at, fetched_by, text_at}
 use Rattle.timeline_app.specs.Words.{AsksFor, is_of_form}
-use Rattle.run_laws.specs.Room.{room}
+use Rattle.run_laws.specs.Room.{room, workers_in}
 
 -- ---- the store
 
@@ -72,18 +73,23 @@ AreExportable lib exports = AllByRecursion (λ (export : ExportOf). AllByRecursi
 
 -- ---- the whole
 
--- What the words ask for is in the store, its clips have no fault, and the journal has room for it.
-pub record IsReady (asked : Asked) (old new : Outside) : Type 0 where
+-- What the words ask for is in the store, its clips have no fault, and the journal has room for it beside so many passes.
+pub record IsReady (others : ℕ) (asked : Asked) (old new : Outside) : Type 0 where
   pub head : Script
   pub holds : HoldsScript old.store asked.script.now head
   pub clips : (n : ℕ) (fault : LoadFault) → StopsAmong (fetched_by true old.store new.store) head.clips (stop.Clip n fault) → ⊥
-  pub fits : room head.body ≤ asked.journal
+  pub fits : room (workers_in others) head.body ≤ asked.journal
 
--- The words are of the form, the store tells its files, what the words ask for is ready, no count rises, and each export has its packets.
-pub record IsSound (words : List (List ℕ)) (old new : Outside) (tells : Telling) (outcome : Outcome) : Type 0 where
-  pub form : is_of_form words ≡ true
-  pub told : tells.store ≡ true
-  pub ready : (asked : Asked) → AsksFor words asked → IsReady asked old new
-  pub calm : CountsStay old new
-  pub packets : (asked : Asked) (o : Opening) → AsksFor words asked → IsOpened (fetched_by true old.store old.store) asked.script.now o
+-- The store tells its files, what the words ask for is ready, no count rises, and each export has its packets.
+pub record IsSoundOver (others : ℕ) (asked : Asked) (over : Around) (outcome : Outcome) : Type 0 where
+  pub told : over.tells.store ≡ true
+  pub ready : IsReady others asked over.old over.new
+  pub calm : CountsStay over.old over.new
+  pub packets : (o : Opening) → IsOpened (fetched_by true over.old.store over.old.store) asked.script.now o
       → AreExportable (library_of o.library) (state_of library_of (desk_at asked o.library outcome.journal)).exports
+
+-- The words are of the form, and what their session runs over is sound. For `gen:N` that is a store that is made.
+pub record IsSound (others : ℕ → ℕ) (words : List (List ℕ)) (given : Around) (outcome : Outcome) : Type 0 where
+  pub form : is_of_form words ≡ true
+  pub sound : (asked : Asked) (over : Around) → AsksFor words asked → IsOver asked.script.now given over
+      → IsSoundOver (others asked.workers) asked over outcome

@@ -2,13 +2,11 @@
 #![tactic(auto)]
 
 #[cfg(test)]
-mod clips;
-#[cfg(test)]
 mod courses;
 #[cfg(test)]
 mod failing;
 #[cfg(test)]
-mod lists;
+mod made;
 #[cfg(test)]
 mod running;
 #[cfg(test)]

@@ -15,6 +15,3 @@ mod taken;
 pub use lane::{ApplyFault, Lane, keeps_sound, recipe_in};
 pub use list_lane::ListLane;
 pub use patch::Patch;
-
-#[cfg(test)]
-mod tests;

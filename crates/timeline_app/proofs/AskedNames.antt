@@ -1,6 +1,6 @@
 -- The exports that a script's calls ask for.
-use Rattle.std.proofs.Common.{◌≡◌, ℕ, ◌+◌, ◌-◌, cond, Bool, true, false, List, [], ◌∷◌, ◌++◌, map, length, take, Option, Some, None, Result, Ok, Err, refl, sym, ap, subst, ◌∙◌}
-use Rattle.std.specs.Prelude.{slice_get, flat_map}
+use Rattle.std.proofs.Common.{◌≡◌, ℕ, ◌+◌, ◌-◌, cond, Bool, true, false, List, [], ◌∷◌, ◌++◌, map, length, take, Option, Some, None, Result, Ok, Err, refl, sym, ap, ◌∙◌, true≢false}
+use Rattle.std.specs.Prelude.{slice_get}
 use Rattle.std.specs.List.{position}
 use Rattle.std.proofs.lemmas.List.{append-nil, append_assoc, map-append}
 use Rattle.tl_model.specs.Cells.{recipes, is_among}
@@ -10,14 +10,30 @@ use Rattle.tl_model.specs.declared.journal.Act.{Act}
 use Rattle.tl_model.specs.declared.journal.Act.TheVariants as act
 use Rattle.edit_undo.specs.History.{History, edit_outcome, undo_outcome, redo_outcome}
 use Rattle.render_core.specs.declared.job.Job.{Job}
-use Rattle.render_core.specs.Calls.{CallOf, entry_of}
+use Rattle.render_core.specs.Calls.{CallOf}
 use Rattle.render_core.specs.Export.{ExportOf, is_untaken}
 use Rattle.render_core.specs.State.{State, is_open, is_queued, with_result, without_holder, update, put_first}
 use Rattle.render_core.specs.Step.{Setup, Reply, Asked, EmptyTimeline}
-use Rattle.render_core.specs.Step.{step, reply, after, is_past, is_empty, with_history, jobs_after_want, jobs_after_cancel, after_claim, after_file, after_play, new_export}
-use Rattle.edit_desk.proofs.Holding.{HasNone}
-use Rattle.timeline_app.proofs.Entered.{AreAnswered, told_first, answered_later}
-use Rattle.timeline_app.proofs.Kept.{IsApart}
+use Rattle.render_core.specs.Step.{step, reply, is_past, is_empty, with_history, jobs_after_want, jobs_after_cancel, after_claim, after_file, after_play, new_export}
+
+-- An act that takes or ends an export.
+abbrev pub is_carrying : Act → Bool
+is_carrying (act.Edit edit) = false
+is_carrying act.Undo = false
+is_carrying act.Redo = false
+is_carrying (act.Want first len) = false
+is_carrying (act.Cancel first len) = false
+is_carrying act.Claim = false
+is_carrying (act.File job) = false
+is_carrying (act.Release job) = false
+is_carrying (act.Play n) = false
+is_carrying (act.Show n) = false
+is_carrying (act.Ask name) = false
+is_carrying act.Take = true
+is_carrying (act.End export ending) = true
+is_carrying (act.Mark turns) = false
+is_carrying act.Skip = false
+is_carrying act.Stop = false
 
 -- ---- the names that are asked for
 
@@ -41,7 +57,7 @@ abbrev pub AreUntaken : List ExportOf → Type 0
 AreUntaken [] = Unit {0}
 AreUntaken (x ∷ xs) = (is_untaken x ≡ true) × AreUntaken xs
 
-untaken-append : (xs ys : List ExportOf) → AreUntaken xs → AreUntaken ys → AreUntaken (xs ++ ys)
+pub untaken-append : (xs ys : List ExportOf) → AreUntaken xs → AreUntaken ys → AreUntaken (xs ++ ys)
 untaken-append [] ys h k = k
 untaken-append (x ∷ xs) ys h k = (h.0, untaken-append xs ys h.1 k)
 
@@ -93,8 +109,8 @@ adds_asked : (F : Type 0) (name : List ℕ) (count : ℕ) (s : State) (b : Bool)
 adds_asked F name count s true = adds_none s s refl
 adds_asked F name count s false = record { more = new_export name s ∷ []; exports = refl; untaken = (refl, tt); names = refl }
 
--- a step that takes and ends no export
-adds_step : {F : Type 0} (setup : Setup F) (at by : ℕ) (what : Act) (s : State) → (IsApart what → ⊥) → AddsExports s (step setup at by what s) (act_asked what (reply setup.library what s))
+-- a step that takes and ends no export, whichever pass makes it
+pub adds_step : {F : Type 0} (setup : Setup F) (at by : ℕ) (what : Act) (s : State) → is_carrying what ≡ false → AddsExports s (step setup at by what s) (act_asked what (reply setup.library what s))
 adds_step setup at by (act.Edit edit) s other = adds_none s _ (keeps_history at (edit_outcome setup.library edit s.history) s)
 adds_step setup at by act.Undo s other = adds_none s _ (keeps_history at (undo_outcome s.history) s)
 adds_step setup at by act.Redo s other = adds_none s _ (keeps_history at (redo_outcome s.history) s)
@@ -106,33 +122,8 @@ adds_step setup at by (act.Release job) s other = adds_none s (record s { jobs =
 adds_step setup at by (act.Play n) s other = adds_none s _ (keeps_play (slice_get (recipes s.history.line) n) s)
 adds_step setup at by (act.Show n) s other = adds_none s _ (keeps_play (slice_get (recipes s.history.line) n) s)
 adds_step {F} setup at by (act.Ask name) s other = adds_asked F name (length s.exports + 1) s (is_empty s)
-adds_step setup at by act.Take s other = absurd (other tt)
-adds_step setup at by (act.End export ending) s other = absurd (other tt)
+adds_step setup at by act.Take s other = absurd (true≢false other)
+adds_step setup at by (act.End export ending) s other = absurd (true≢false other)
 adds_step setup at by (act.Mark turns) s other = adds_none s s refl
 adds_step setup at by act.Skip s other = adds_none s s refl
-adds_step setup at by act.Stop s other = absurd (other tt)
-
--- ---- the script's calls
-
--- After some first calls of a list a state is reached, in which the rest comes.
-pub record AfterCalls {F : Type 0} (setup : Setup F) (rest : List (CallOf F)) (s final : State) (asked : List (List ℕ)) : Type 0 where
-  pub count : ℕ
-  pub mid : State
-  pub answered : AreAnswered setup count rest mid
-  pub last : final ≡ after setup count (map entry_of rest) mid
-  pub adds : AddsExports s mid asked
-
-pub after_calls : {F : Type 0} (setup : Setup F) (count : ℕ) (calls rest : List (CallOf F)) (s : State) → HasNone IsApart calls → AreAnswered setup count (calls ++ rest) s → AfterCalls setup rest s (after setup count (map entry_of (calls ++ rest)) s) (flat_map asked_names calls)
-after_calls setup count [] rest s none h = record { count = count; mid = s; answered = h; last = refl; adds = adds_none s s refl }
-after_calls setup count (call ∷ calls) rest s none h =
-    let next = step setup (count + 1) call.pass call.act s in
-    let one : AddsExports s next (asked_names call) =
-    subst (λ (told : Reply _). AddsExports s next (act_asked call.act told)) (sym (told_first setup count call (calls ++ rest) s h)) (adds_step setup (count + 1) call.pass call.act s none.0) in
-    let more = after_calls setup (count + 1) calls rest next none.1 (answered_later setup count call (calls ++ rest) s h) in
-    record {
-      count = more.count;
-      mid = more.mid;
-      answered = more.answered;
-      last = more.last;
-      adds = adds_then s next more.mid (asked_names call) (flat_map asked_names calls) one more.adds;
-    }
+adds_step setup at by act.Stop s other = adds_none s (record s { is_stopped = true }) refl

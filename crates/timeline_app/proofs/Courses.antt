@@ -7,8 +7,8 @@ use Rattle.tl_model.specs.declared.journal.Act.TheVariants as act
 use Rattle.tl_ports.specs.declared.fault.PutFault.{PutFault}
 use Rattle.render_core.specs.Calls.{CallOf, calls_of, own_calls}
 use Rattle.render_core.specs.Step.{Silent}
-use Rattle.edit_desk.specs.Desk.{FixedOf, DeskOf, Enters, Hears, heard, setup_of}
-use Rattle.edit_desk.proofs.Heard.{hears_on, hears_enters}
+use Rattle.edit_desk.specs.Desk.{FixedOf, DeskOf, Learns, Enters, Hears, heard, setup_of}
+use Rattle.edit_desk.proofs.Heard.{hears_on, hears_enters, hears_learns}
 use Rattle.script_lang.specs.declared.script.BodyLine.{BodyLine}
 use Rattle.play_head.specs.declared.halt.Halt.{Halt}
 use Rattle.play_head.specs.declared.halt.Halt.TheVariants as halt
@@ -55,8 +55,8 @@ module _ {M K F : Type 0} (s : Setting M F) where
     pub begun : IsBegun s new.desk c.halted
     pub hears : Hears s.library old.desk new.desk (script_calls c)
 
-  pub part_whole : (old new : Player M K) (body : List BodyLine) (f : PlaysLines s old new body) (carried : List Carried) (said : Result Unit PutFault) → ScriptPart old new body (record { played = f.played; halted = None; carried = carried; said = said })
-  part_whole old new body f carried said = record {
+  pub part_whole : (old new : Player M K) (body : List BodyLine) (f : PlaysLines s old new body) (early late : List Carried) (said : Result Unit PutFault) → ScriptPart old new body (record { played = f.played; halted = None; early = early; late = late; said = said })
+  part_whole old new body f early late said = record {
     lines = sym f.is;
     whole = f.whole;
     begun = tt;
@@ -71,8 +71,8 @@ module _ {M K F : Type 0} (s : Setting M F) where
         (is_output mid new h.played h.left why h.stops),
   )
 
-  pub part_front : (old new : Player M K) (body : List BodyLine) (why : Halt) (f : PlaysFront s old new body why) (carried : List Carried) (said : Result Unit PutFault) → ScriptPart old new body (record { played = f.plays.played; halted = Some (halted_by f.between new f.line why f.part); carried = carried; said = said })
-  part_front old new body why f carried said = record {
+  pub part_front : (old new : Player M K) (body : List BodyLine) (why : Halt) (f : PlaysFront s old new body why) (early late : List Carried) (said : Result Unit PutFault) → ScriptPart old new body (record { played = f.plays.played; halted = Some (halted_by f.between new f.line why f.part); early = early; late = late; said = said })
+  part_front old new body why f early late said = record {
     lines = (
       f.rest,
       f.is
@@ -89,15 +89,25 @@ module _ {M K F : Type 0} (s : Setting M F) where
   stop_hears played stopped zero h =
       subst (λ (n : ℕ). Hears s.library played stopped (record { pass = n; act = act.Stop; told = Silent } ∷ [])) zero (hears_enters s.library played stopped act.Stop Silent h)
 
-  pub end_hears : (played stopped new : DeskOf M K) (carried : List Carried) → played.fixed.number ≡ 0 → Enters s.library played stopped act.Stop Silent → FinishesExports s.library stopped new carried → Hears s.library played new (stop_call ∷ flat_map (carried_calls 0) carried)
-  end_hears played stopped new carried zero h f =
-      let stop = stop_hears played stopped zero h in
-      let same : stopped.fixed.number ≡ 0 = number-hears s.library played stopped (stop_call ∷ []) stop ∙ zero in
-      hears_on s.library played stopped new (stop_call ∷ []) (flat_map (carried_calls 0) carried) stop
-      (subst (λ (n : ℕ). Hears s.library stopped new (flat_map (carried_calls n) carried)) same f.hears)
+  -- and what others entered then
+  pub joined_hears : (played stopped joined : DeskOf M K) → played.fixed.number ≡ 0 → Enters s.library played stopped act.Stop Silent → Learns stopped joined → Hears s.library played joined (stop_call ∷ [])
+  joined_hears played stopped joined zero h l =
+      hears_on s.library played stopped joined (stop_call ∷ []) [] (stop_hears played stopped zero h) (hears_learns s.library stopped joined l)
+
+  pub end_hears : (played joined new : DeskOf M K) (late : List Carried) → played.fixed.number ≡ 0 → Hears s.library played joined (stop_call ∷ []) → FinishesExports s.library joined new late → Hears s.library played new (stop_call ∷ flat_map (carried_calls 0) late)
+  end_hears played joined new late zero stop f =
+      let same : joined.fixed.number ≡ 0 = number-hears s.library played joined (stop_call ∷ []) stop ∙ zero in
+      hears_on s.library played joined new (stop_call ∷ []) (flat_map (carried_calls 0) late) stop
+      (subst (λ (n : ℕ). Hears s.library joined new (flat_map (carried_calls n) late)) same f.hears)
 
   -- all that is heard in a session
-  pub calls_all : (old played new : DeskOf M K) (c : Course F) → old.seen ≡ [] → Hears s.library old played (script_calls c) → Hears s.library played new (stop_call ∷ flat_map (carried_calls 0) c.carried) → heard s.library new ≡ course_calls c
+  pub calls_all : (old played new : DeskOf M K) (c : Course F) → old.seen ≡ [] → Hears s.library old played (script_calls c) → Hears s.library played new (stop_call ∷ flat_map (carried_calls 0) c.late) → heard s.library new ≡ course_calls c
   calls_all old played new c empty script ends =
-      (hears_on s.library old played new (script_calls c) (stop_call ∷ flat_map (carried_calls 0) c.carried) script ends).heard
+      (hears_on s.library old played new (script_calls c) (stop_call ∷ flat_map (carried_calls 0) c.late) script ends).heard
       ∙ ap (λ (cs : List (CallOf F)). cs ++ course_calls c) (heard_nothing old empty)
+
+  -- the same up to the exports that are left
+  pub calls_before : (old played joined : DeskOf M K) (c : Course F) → old.seen ≡ [] → Hears s.library old played (script_calls c) → Hears s.library played joined (stop_call ∷ []) → heard s.library joined ≡ script_calls c ++ stop_call ∷ []
+  calls_before old played joined c empty script stop =
+      (hears_on s.library old played joined (script_calls c) (stop_call ∷ []) script stop).heard
+      ∙ ap (λ (cs : List (CallOf F)). cs ++ (script_calls c ++ stop_call ∷ [])) (heard_nothing old empty)

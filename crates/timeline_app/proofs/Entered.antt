@@ -1,12 +1,11 @@
 -- A journal by its calls, and one whose entries are all of one pass.
 use Rattle.std.proofs.Common.{◌≡◌, ℕ, suc, ◌+◌, ◌≤◌, cond, Bool, true, false, List, [], ◌∷◌, map, length, filter, refl, sym, ap, subst, ◌∙◌, arith}
 use Rattle.std.specs.Prelude.{◌==◌}
-use Rattle.tl_model.specs.Media.{Library}
+use Rattle.std.proofs.lemmas.Bool.Decides.{nat_tests}
 use Rattle.tl_model.specs.declared.journal.Entry.{Entry}
-use Rattle.render_core.specs.Calls.{CallOf, entry_of, calls_from, calls_of, own, own_calls}
-use Rattle.render_core.specs.State.{State, start}
-use Rattle.render_core.specs.Step.{Setup, Reply, IsJournal, AreLegal, step, reply, after, state_after}
-use Rattle.edit_desk.specs.Desk.{DeskOf, IsDesk, setup_of, state_of, heard}
+use Rattle.render_core.specs.Calls.{CallOf, entry_of, calls_from, own}
+use Rattle.render_core.specs.State.{State}
+use Rattle.render_core.specs.Step.{Setup, Reply, AreLegal, step, reply}
 
 -- ---- the entries of one pass
 
@@ -22,26 +21,23 @@ abbrev rest_of : {A : Type 0} → List A → List A
 rest_of [] = []
 rest_of (x ∷ xs) = xs
 
-own_by : {F : Type 0} (pass : ℕ) (e : Entry) (es : List Entry) (call : CallOf F) (calls : List (CallOf F)) (b : Bool) → call.pass ≡ e.pass → (e.pass == pass) ≡ b
-    → cond b (e ∷ own pass es) (own pass es) ≡ e ∷ es → (own pass es ≡ es → own_calls pass calls ≡ calls) → own_calls pass (call ∷ calls) ≡ call ∷ calls
-own_by {F} pass e es call calls true p t h rest =
-    ap (λ (b : Bool). cond b (call ∷ own_calls pass calls) (own_calls pass calls)) (ap (λ (k : ℕ). k == pass) p ∙ t)
-    ∙ ap (λ (cs : List (CallOf F)). call ∷ cs) (rest (ap rest_of h))
-own_by pass e es call calls false p t h rest =
+others_by : (pass n : ℕ) (e : Entry) (es : List Entry) (b : Bool) → (e.pass == pass) ≡ b → (n ≡ pass → ⊥) → cond b (e ∷ own pass es) (own pass es) ≡ e ∷ es → (own pass es ≡ es → own n es ≡ []) → own n (e ∷ es) ≡ []
+others_by pass n e es true t apart h rest =
+    let other : (e.pass == n) ≡ false = grind (arith, nat_tests, t, apart) in
+    ap (λ (b : Bool). cond b (e ∷ own n es) (own n es)) other ∙ rest (ap rest_of h)
+others_by pass n e es false t apart h rest =
     let fewer = filter_fewer (λ (x : Entry). x.pass == pass) es in
     let as_many : length (own pass es) ≡ suc (length es) = ap length h in
     absurd (omega (arith, fewer, as_many))
 
--- where all entries are of a pass, all calls are
-own_all : {F : Type 0} (setup : Setup F) (pass count : ℕ) (es : List Entry) (s : State) → own pass es ≡ es → own_calls pass (calls_from setup count es s) ≡ calls_from setup count es s
-own_all setup pass count [] s h = refl
-own_all setup pass count (e ∷ es) s h =
-    let next = step setup (count + 1) e.pass e.act s in
-    own_by pass e es (record { pass = e.pass; act = e.act; told = reply setup.library e.act s }) (calls_from setup (count + 1) es next) (e.pass == pass) refl refl h (own_all setup pass (count + 1) es next)
+-- where all entries are of a pass, another one has none
+pub others_none : (pass n : ℕ) (es : List Entry) → (n ≡ pass → ⊥) → own pass es ≡ es → own n es ≡ []
+others_none pass n [] apart h = refl
+others_none pass n (e ∷ es) apart h = others_by pass n e es (e.pass == pass) refl apart h (others_none pass n es apart)
 
 -- ---- the entries of calls
 
-entries_are : {F : Type 0} (setup : Setup F) (count : ℕ) (es : List Entry) (s : State) → map entry_of (calls_from setup count es s) ≡ es
+pub entries_are : {F : Type 0} (setup : Setup F) (count : ℕ) (es : List Entry) (s : State) → map entry_of (calls_from setup count es s) ≡ es
 entries_are setup count [] s = refl
 entries_are setup count (e ∷ es) s = ap (λ (xs : List Entry). e ∷ xs) (entries_are setup (count + 1) es (step setup (count + 1) e.pass e.act s))
 
@@ -60,26 +56,8 @@ told_first setup count call calls s h = ap (first_told call.told) h.told
 pub answered_later : {F : Type 0} (setup : Setup F) (count : ℕ) (call : CallOf F) (calls : List (CallOf F)) (s : State) → AreAnswered setup count (call ∷ calls) s → AreAnswered setup (count + 1) calls (step setup (count + 1) call.pass call.act s)
 answered_later setup count call calls s h = record { legal = h.legal.1; told = ap rest_of h.told }
 
-module _ {M K F : Type 0} (library : M → Library F) where
-  -- What is seen are the entries of all calls that were heard.
-  pub record HasEntries (d : DeskOf M K) (calls : List (CallOf F)) : Type 0 where
-    pub seen : d.seen ≡ map entry_of calls
-    pub answered : AreAnswered (setup_of library d) 0 calls start
-    pub state : state_of library d ≡ after (setup_of library d) 0 (map entry_of calls) start
-
-  all_heard : (d : DeskOf M K) → own d.fixed.number d.seen ≡ d.seen → heard library d ≡ calls_of (setup_of library d) d.seen
-  all_heard d own = own_all (setup_of library d) d.fixed.number 0 d.seen start own
-
-  pub has_entries : (d : DeskOf M K) (calls : List (CallOf F)) → IsDesk library d → own d.fixed.number d.seen ≡ d.seen → heard library d ≡ calls → HasEntries d calls
-  has_entries d calls known own e =
-      let setup = setup_of library d in
-      let all : calls_of setup d.seen ≡ calls = sym (all_heard d own) ∙ e in
-      let seen : d.seen ≡ map entry_of calls = sym (entries_are setup 0 d.seen start) ∙ ap (map entry_of) all in
-      record {
-        seen = seen;
-        answered = record {
-          legal = subst (IsJournal setup) seen known.legal;
-          told = sym all ∙ ap (λ (es : List Entry). calls_from setup 0 es start) seen;
-        };
-        state = ap (state_after setup) seen;
-      }
+-- the calls of entries that are legal
+pub all_answered : {F : Type 0} (setup : Setup F) (count : ℕ) (es : List Entry) (s : State) → AreLegal setup count es s → AreAnswered setup count (calls_from setup count es s) s
+all_answered setup count es s legal =
+    let is = entries_are setup count es s in
+    record { legal = subst (λ (xs : List Entry). AreLegal setup count xs s) (sym is) legal; told = ap (λ (xs : List Entry). calls_from setup count xs s) (sym is) }

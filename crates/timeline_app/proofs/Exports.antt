@@ -1,23 +1,21 @@
--- The exports of a session whose caller is alone are those that it carried out.
+-- The exports of a journal, as one pass takes and ends them while others make other calls.
 use Rattle.std.proofs.Common.{◌≡◌, ℕ, ◌+◌, ◌-◌, ◌<◌, cond, not, Bool, true, false, List, [], ◌∷◌, ◌++◌, map, length, Option, Some, None, refl, sym, ap, subst, ◌∙◌, arith, length-append, lt-ltb, le-ltb, true≢false}
 use Rattle.std.specs.Prelude.{IsSome, nat_lt, slice_get}
 use Rattle.std.specs.List.{flat_map, position, position_or_len}
-use Rattle.std.proofs.lemmas.List.{append-nil, append_assoc, length_push}
+use Rattle.std.proofs.lemmas.List.{append-nil, append_assoc, length-map, map-append}
 use Rattle.tl_model.specs.Cells.{Cell}
-use Rattle.tl_model.specs.Media.{Library}
 use Rattle.tl_model.specs.declared.journal.Act.TheVariants as act
 use Rattle.render_core.specs.declared.export.Stage.TheVariants as stage
-use Rattle.render_core.specs.Calls.{CallOf, entry_of, own}
+use Rattle.render_core.specs.Calls.{CallOf, entry_of}
 use Rattle.render_core.specs.Export.{ExportOf, is_untaken, with_taker, with_ending}
-use Rattle.render_core.specs.State.{State, start, update}
+use Rattle.render_core.specs.State.{State, update}
 use Rattle.render_core.specs.Step.{Setup, Reply, Taken, Silent, step, after, after_take, take_reply, place_of}
-use Rattle.edit_desk.specs.Desk.{DeskOf, IsDesk, setup_of, state_of, heard}
-use Rattle.edit_desk.proofs.Holding.{HasNone}
 use Rattle.play_head.specs.Carrying.{Carried, carried_calls}
-use Rattle.timeline_app.specs.Course.{Course, AreNumbered, course_calls, ended_export, script_calls, stop_call}
-use Rattle.timeline_app.proofs.AskedNames.{AreUntaken, after_calls, asked_names, names_of}
-use Rattle.timeline_app.proofs.Entered.{AreAnswered, answered_later, has_entries, told_first}
-use Rattle.timeline_app.proofs.Kept.{IsApart}
+use Rattle.timeline_app.specs.Course.{AreNumbered, ended_export}
+use Rattle.timeline_app.proofs.Among.{carrying_calls}
+use Rattle.timeline_app.proofs.AskedNames.{AddsExports, AreUntaken, act_asked, adds_step, asked_names, is_carrying, names_of, untaken-append}
+use Rattle.timeline_app.proofs.Entered.{AreAnswered, answered_later, told_first}
+use Rattle.timeline_app.proofs.Files.{names_carried}
 
 -- ---- the first export that nobody took
 
@@ -25,10 +23,6 @@ use Rattle.timeline_app.proofs.Kept.{IsApart}
 abbrev AreTaken : List ExportOf → Type 0
 AreTaken [] = Unit {0}
 AreTaken (x ∷ xs) = (is_untaken x ≡ false) × AreTaken xs
-
-taken_push : (xs : List ExportOf) (x : ExportOf) → AreTaken xs → is_untaken x ≡ false → AreTaken (xs ++ x ∷ [])
-taken_push [] x h e = (e, tt)
-taken_push (y ∷ xs) x h e = (h.0, taken_push xs x h.1 e)
 
 ended_taken : (carried : List Carried) → AreTaken (map ended_export carried)
 ended_taken [] = tt
@@ -70,12 +64,49 @@ get_here : (front rest : List ExportOf) (x : ExportOf) → slice_get (front ++ x
 get_here [] rest x = refl
 get_here (y ∷ front) rest x = get_here front rest x
 
--- ---- one export is taken and ended
+-- ---- where carrying out stands
 
-record CarriesOneMore (front rest : List ExportOf) (x : ExportOf) (c : Carried) (new : List ExportOf) : Type 0 where
-  number : c.export ≡ length front + 1
-  name : c.name ≡ x.name
-  exports : new ≡ (front ++ ended_export c ∷ []) ++ rest
+-- The exports that were ended, the one that is taken, and those that nobody took.
+pub record Standing : Type 0 where
+  pub ended : List Carried
+  pub now : Option Carried
+  pub left : List ExportOf
+
+abbrev listed : Option Carried → List Carried
+listed None = []
+listed (Some c) = c ∷ []
+
+-- the exports that were taken, ended or not
+abbrev pub begun : Standing → List Carried
+begun st = st.ended ++ listed st.now
+
+abbrev names_at : Standing → List (List ℕ)
+names_at st = names_carried (begun st) ++ names_of st.left
+
+abbrev pub taken_by : ℕ → Carried → ExportOf
+taken_by by c = record { name = c.name; line = c.line; stage = stage.Taken by }
+
+abbrev taken_now : ℕ → Option Carried → List ExportOf
+taken_now by None = []
+taken_now by (Some c) = taken_by by c ∷ []
+
+abbrev pub exports_at : ℕ → Standing → List ExportOf
+exports_at by st = map ended_export st.ended ++ (taken_now by st.now ++ st.left)
+
+pub record Stands (by : ℕ) (st : Standing) (s : State) : Type 0 where
+  pub exports : s.exports ≡ exports_at by st
+  pub untaken : AreUntaken st.left
+  pub numbers : AreNumbered 1 (begun st)
+
+numbered_push : (first : ℕ) (xs : List Carried) (c : Carried) → AreNumbered first xs → c.export ≡ first + length xs → AreNumbered first (xs ++ c ∷ [])
+numbered_push first [] c h e = (omega (arith, e), tt)
+numbered_push first (x ∷ xs) c h e = (h.0, numbered_push (first + 1) xs c h.1 (omega (arith, e)))
+
+numbered_last : (first : ℕ) (xs : List Carried) (c : Carried) → AreNumbered first (xs ++ c ∷ []) → c.export ≡ first + length xs
+numbered_last first [] c h = let e = h.0 in omega (arith, e)
+numbered_last first (x ∷ xs) c h = let e = numbered_last (first + 1) xs c h.1 in omega (arith, e)
+
+-- ---- one call
 
 -- what was told of a take
 record IsTold (place : ℕ) (x : ExportOf) (c : Carried) : Type 0 where
@@ -98,118 +129,247 @@ told_line other = []
 is_told : {F : Type 0} (place : ℕ) (x : ExportOf) (c : Carried) → ◌≡◌ {A = Reply F} (Taken c.export c.name c.line) (Taken (place + 1) x.name x.line) → IsTold place x c
 is_told place x c h = record { number = ap told_number h; name = ap told_name h; line = ap told_line h }
 
-ended_is : (x : ExportOf) (c : Carried) → c.name ≡ x.name → c.line ≡ x.line → with_ending c.ending (with_taker 0 x) ≡ ended_export c
-ended_is x c name line =
-    ap (λ (n : List ℕ). record { name = n; line = x.line; stage = stage.Ended c.ending }) (sym name)
-    ∙ ap (λ (l : List Cell). record { name = c.name; line = l; stage = stage.Ended c.ending }) (sym line)
+taken_is : (by : ℕ) (x : ExportOf) (c : Carried) → c.name ≡ x.name → c.line ≡ x.line → with_taker by x ≡ taken_by by c
+taken_is by x c name line =
+    ap (λ (n : List ℕ). record { name = n; line = x.line; stage = stage.Taken by }) (sym name)
+    ∙ ap (λ (l : List Cell). record { name = c.name; line = l; stage = stage.Taken by }) (sym line)
 
-carry_one : {F : Type 0} (s : State) (front rest : List ExportOf) (x : ExportOf) (c : Carried) → s.exports ≡ front ++ x ∷ rest → AreTaken front → is_untaken x ≡ true
+-- a take
+record TakesOne (by : ℕ) (s : State) (ended : List Carried) (x : ExportOf) (rest : List ExportOf) (c : Carried) : Type 0 where
+  name : c.name ≡ x.name
+  stands : Stands by (record { ended = ended; now = Some c; left = rest }) (after_take by (position is_untaken s.exports) s)
+
+take_one : {F : Type 0} (by : ℕ) (s : State) (ended : List Carried) (x : ExportOf) (rest : List ExportOf) (c : Carried) → Stands by (record { ended = ended; now = None; left = x ∷ rest }) s
     → ◌≡◌ {A = Reply F} (Taken c.export c.name c.line) (take_reply (position is_untaken s.exports) (slice_get s.exports (place_of (position is_untaken s.exports))))
-    → CarriesOneMore front rest x c (update (c.export - 1) (with_ending c.ending) (after_take 0 (position is_untaken s.exports) s).exports)
-carry_one {F} s front rest x c e h u told =
+    → TakesOne by s ended x rest c
+take_one {F} by s ended x rest c h told =
+    let front = map ended_export ended in
     let place = length front in
-    let found : position is_untaken s.exports ≡ Some place = ap (position is_untaken) e ∙ found_first front rest x h u in
-    let here : slice_get s.exports place ≡ Some x = ap (λ (xs : List ExportOf). slice_get xs place) e ∙ get_here front rest x in
+    let found : position is_untaken s.exports ≡ Some place = ap (position is_untaken) h.exports ∙ found_first front rest x (ended_taken ended) h.untaken.0 in
+    let here : slice_get s.exports place ≡ Some x = ap (λ (xs : List ExportOf). slice_get xs place) h.exports ∙ get_here front rest x in
     let is : IsTold place x c = is_told {F = F} place x c
     (told ∙ ap (λ (o : Option ℕ). take_reply {F = F} o (slice_get s.exports (place_of o))) found ∙ ap (take_reply {F = F} (Some place)) here) in
-    let taken : (after_take 0 (position is_untaken s.exports) s).exports ≡ front ++ with_taker 0 x ∷ rest =
-    ap (λ (o : Option ℕ). (after_take 0 o s).exports) found ∙ ap (update place (with_taker 0)) e ∙ update_here (with_taker 0) front rest x in
     let number = is.number in
-    let at : c.export - 1 ≡ place = omega (arith, number) in
+    let long = length-map ended ended_export in
     record {
-      number = number;
       name = is.name;
-      exports = ap (λ (i : ℕ). update i (with_ending c.ending) (after_take 0 (position is_untaken s.exports) s).exports) at
-          ∙ ap (update place (with_ending c.ending)) taken
-          ∙ update_here (with_ending c.ending) front rest (with_taker 0 x)
-          ∙ ap (λ (y : ExportOf). front ++ y ∷ rest) (ended_is x c is.name is.line)
-          ∙ sym (append_assoc front (ended_export c ∷ []) rest);
+      stands = record {
+        exports = ap (λ (o : Option ℕ). (after_take by o s).exports) found
+            ∙ ap (update place (with_taker by)) h.exports
+            ∙ update_here (with_taker by) front rest x
+            ∙ ap (λ (y : ExportOf). front ++ y ∷ rest) (taken_is by x c is.name is.line);
+        untaken = h.untaken.1;
+        numbers = numbered_push 1 ended c (subst (AreNumbered 1) (append-nil ended) h.numbers) (omega (arith, number, long));
+      };
     }
 
--- ---- the exports that are carried out
-
--- After those that were ended before, these exports were ended, and then come those that nobody took.
-record CarriesExports (front rest : List ExportOf) (carried : List Carried) (new : List ExportOf) : Type 0 where
-  left : List ExportOf
-  exports : new ≡ front ++ (map ended_export carried ++ left)
-  untaken : AreUntaken left
-  numbers : AreNumbered (length front + 1) carried
-  names : names_of rest ≡ map (λ (c : Carried). c.name) carried ++ names_of left
-
-carry_exports : {F : Type 0} (setup : Setup F) (count : ℕ) (carried : List Carried) (s : State) (front rest : List ExportOf) → s.exports ≡ front ++ rest → AreTaken front → AreUntaken rest
-    → AreAnswered setup count (flat_map (carried_calls 0) carried) s → CarriesExports front rest carried (after setup count (map entry_of (flat_map (carried_calls {F = F} 0) carried)) s).exports
-carry_exports setup count [] s front rest e h u a = record { left = rest; exports = e; untaken = u; numbers = tt; names = refl }
-carry_exports setup count (c ∷ more) s front [] e h u a =
-    absurd (true≢false (sym (subst IsSome (ap (position is_untaken) (e ∙ append-nil front) ∙ found_none front h) a.legal.0)))
-carry_exports {F} setup count (c ∷ more) s front (x ∷ rest) e h u a =
-    let calls : List (CallOf F) = flat_map (carried_calls 0) more in
-    let take : CallOf F = record { pass = 0; act = act.Take; told = Taken c.export c.name c.line } in
-    let end : CallOf F = record { pass = 0; act = act.End c.export c.ending; told = Silent } in
-    let taken = step setup (count + 1) 0 act.Take s in
-    let next = step setup (count + 1 + 1) 0 (act.End c.export c.ending) taken in
-    let one = carry_one {F = F} s front rest x c e h u.0 (told_first setup count take (end ∷ calls) s a) in
-    let later = answered_later setup (count + 1) end calls taken (answered_later setup count take (end ∷ calls) s a) in
-    let then_more = carry_exports setup (count + 1 + 1) more next (front ++ ended_export c ∷ []) rest one.exports (taken_push front (ended_export c) h refl) u.1 later in
+-- its end
+end_one : (by : ℕ) (s : State) (ended : List Carried) (left : List ExportOf) (c : Carried) → Stands by (record { ended = ended; now = Some c; left = left }) s
+    → Stands by (record { ended = ended ++ c ∷ []; now = None; left = left }) (record s { exports = update (c.export - 1) (with_ending c.ending) s.exports })
+end_one by s ended left c h =
+    let front = map ended_export ended in
+    let number = numbered_last 1 ended c h.numbers in
+    let long = length-map ended ended_export in
+    let at : c.export - 1 ≡ length front = omega (arith, number, long) in
     record {
-      left = then_more.left;
-      exports = then_more.exports ∙ append_assoc front (ended_export c ∷ []) (map ended_export more ++ then_more.left);
-      untaken = then_more.untaken;
-      numbers = (one.number, subst (λ (n : ℕ). AreNumbered (n + 1) more) (length_push front (ended_export c)) then_more.numbers);
-      names = ap (λ (n : List ℕ). n ∷ names_of rest) (sym one.name) ∙ ap (λ (ns : List (List ℕ)). c.name ∷ ns) then_more.names;
+      exports = ap (λ (i : ℕ). update i (with_ending c.ending) s.exports) at
+          ∙ ap (update (length front) (with_ending c.ending)) h.exports
+          ∙ update_here (with_ending c.ending) front left (taken_by by c)
+          ∙ sym (append_assoc front (ended_export c ∷ []) left)
+          ∙ ap (λ (xs : List ExportOf). xs ++ left) (sym (map-append ended_export ended (c ∷ [])));
+      untaken = h.untaken;
+      numbers = subst (AreNumbered 1) (sym (append-nil (ended ++ c ∷ []))) h.numbers;
     }
+
+-- a call that takes and ends none
+stay_one : (by : ℕ) (s next : State) (st : Standing) (asked : List (List ℕ)) (h : AddsExports s next asked) → Stands by st s → Stands by (record st { left = st.left ++ h.more }) next
+stay_one by s next st asked h k = record {
+  exports = h.exports ∙ ap (λ (xs : List ExportOf). xs ++ h.more) k.exports
+      ∙ append_assoc (map ended_export st.ended) (taken_now by st.now ++ st.left) h.more
+      ∙ ap (λ (xs : List ExportOf). map ended_export st.ended ++ xs) (append_assoc (taken_now by st.now) st.left h.more);
+  untaken = untaken-append st.left h.more k.untaken h.untaken;
+  numbers = k.numbers;
+}
+
+-- ---- all calls
+
+abbrev take_call : {F : Type 0} → ℕ → Carried → CallOf F
+take_call by c = record { pass = by; act = act.Take; told = Taken c.export c.name c.line }
+
+abbrev end_call : {F : Type 0} → ℕ → Carried → CallOf F
+end_call by c = record { pass = by; act = act.End c.export c.ending; told = Silent }
+
+-- the calls that carry these out, where the one before them is taken
+abbrev pub to_do : {F : Type 0} → ℕ → Option Carried → List Carried → List (CallOf F)
+to_do by None more = flat_map (carried_calls by) more
+to_do by (Some c) more = end_call by c ∷ flat_map (carried_calls by) more
+
+-- From there on these names were asked for, and of the calls that carry out more exports these are left.
+pub record Reaches {F : Type 0} (by : ℕ) (st : Standing) (more : List Carried) (asked : List (List ℕ)) (tail : List (CallOf F)) (new : State) : Type 0 where
+  pub to : Standing
+  pub later : List Carried
+  pub stands : Stands by to new
+  pub is : tail ≡ to_do by to.now later
+  pub same : begun st ++ more ≡ begun to ++ later
+  pub names : names_at st ++ asked ≡ names_at to
+
+abbrev Goes : {F : Type 0} → Setup F → (by count : ℕ) → (calls tail : List (CallOf F)) → Type 0
+Goes {F} setup by count calls tail =
+    (s : State) (st : Standing) (more : List Carried) → Stands by st s → AreAnswered setup count calls s → carrying_calls calls ++ tail ≡ to_do by st.now more
+    → Reaches by st more (flat_map asked_names calls) tail (after setup count (map entry_of calls) s)
+
+-- what is known before a call
+record Before {F : Type 0} (setup : Setup F) (by count : ℕ) (call : CallOf F) (calls tail : List (CallOf F)) : Type 0 where
+  state : State
+  answered : AreAnswered setup count (call ∷ calls) state
+  goes : Goes setup by (count + 1) calls tail
+
+abbrev rest_calls : {F : Type 0} → List (CallOf F) → List (CallOf F)
+rest_calls [] = []
+rest_calls (c ∷ cs) = cs
+
+abbrev head_or : {F : Type 0} → CallOf F → List (CallOf F) → CallOf F
+head_or other [] = other
+head_or other (c ∷ cs) = c
+
+module _ {F : Type 0} (setup : Setup F) (by count : ℕ) (calls tail : List (CallOf F)) where
+  abbrev There : CallOf F → State → Standing → List Carried → Type 0
+  There call s st more = Reaches by st more (flat_map asked_names (call ∷ calls)) tail (after setup count (map entry_of (call ∷ calls)) s)
+
+  go_past : (call : CallOf F) (b : Before setup by count call calls tail) (st : Standing) (more : List Carried) → Stands by st b.state → is_carrying call.act ≡ false → carrying_calls calls ++ tail ≡ to_do by st.now more → There call b.state st more
+  go_past call b st more h other e =
+      let s = b.state in
+      let next = step setup (count + 1) call.pass call.act s in
+      let one : AddsExports s next (asked_names call) =
+      subst (λ (told : Reply F). AddsExports s next (act_asked call.act told)) (sym (told_first setup count call calls s b.answered)) (adds_step setup (count + 1) call.pass call.act s other) in
+      let r = b.goes next (record st { left = st.left ++ one.more }) more (stay_one by s next st (asked_names call) one h) (answered_later setup count call calls s b.answered) e in
+      record {
+        to = r.to;
+        later = r.later;
+        stands = r.stands;
+        is = r.is;
+        same = r.same;
+        names = sym (append_assoc (names_at st) (asked_names call) (flat_map asked_names calls))
+            ∙ ap (λ (ns : List (List ℕ)). ns ++ flat_map asked_names calls)
+            (append_assoc (names_carried (begun st)) (names_of st.left) (asked_names call)
+            ∙ ap (λ (ns : List (List ℕ)). names_carried (begun st) ++ (names_of st.left ++ ns)) (sym one.names)
+            ∙ ap (λ (ns : List (List ℕ)). names_carried (begun st) ++ ns) (sym (map-append (λ (x : ExportOf). x.name) st.left one.more)))
+            ∙ r.names;
+      }
+
+  go_end : (s : State) (ended : List Carried) (left : List ExportOf) (c : Carried) (more : List Carried) → Goes setup by (count + 1) calls tail → AreAnswered setup count (end_call by c ∷ calls) s
+      → Stands by (record { ended = ended; now = Some c; left = left }) s → carrying_calls calls ++ tail ≡ flat_map (carried_calls by) more → There (end_call by c) s (record { ended = ended; now = Some c; left = left }) more
+  go_end s ended left c more goes a h e =
+      let next = step setup (count + 1) by (act.End c.export c.ending) s in
+      let st : Standing = record { ended = ended ++ c ∷ []; now = None; left = left } in
+      let r = goes next st more (end_one by s ended left c h) (answered_later setup count (end_call by c) calls s a) e in
+      let none = append-nil (ended ++ c ∷ []) in
+      record {
+        to = r.to;
+        later = r.later;
+        stands = r.stands;
+        is = r.is;
+        same = ap (λ (cs : List Carried). cs ++ more) (sym none) ∙ r.same;
+        names = ap (λ (cs : List Carried). (names_carried cs ++ names_of left) ++ flat_map asked_names calls) (sym none) ∙ r.names;
+      }
+
+  go_take : (s : State) (ended : List Carried) (left : List ExportOf) (c : Carried) (more : List Carried) → Goes setup by (count + 1) calls tail → AreAnswered setup count (take_call by c ∷ calls) s
+      → Stands by (record { ended = ended; now = None; left = left }) s → carrying_calls calls ++ tail ≡ end_call by c ∷ flat_map (carried_calls by) more → There (take_call by c) s (record { ended = ended; now = None; left = left }) (c ∷ more)
+  go_take s ended [] c more goes a h e =
+      let front = map ended_export ended in
+      absurd (true≢false (sym (subst IsSome (ap (position is_untaken) (h.exports ∙ append-nil front) ∙ found_none front (ended_taken ended)) a.legal.0)))
+  go_take s ended (x ∷ left) c more goes a h e =
+      let next = step setup (count + 1) by act.Take s in
+      let st : Standing = record { ended = ended; now = Some c; left = left } in
+      let one = take_one {F = F} by s ended x left c h (told_first setup count (take_call by c) calls s a) in
+      let r = goes next st more one.stands (answered_later setup count (take_call by c) calls s a) e in
+      let none = append-nil ended in
+      record {
+        to = r.to;
+        later = r.later;
+        stands = r.stands;
+        is = r.is;
+        same = ap (λ (cs : List Carried). cs ++ c ∷ more) none ∙ sym (append_assoc ended (c ∷ []) more) ∙ r.same;
+        names = ap (λ (ns : List (List ℕ)). ns ++ flat_map asked_names calls)
+            (ap (λ (cs : List Carried). names_carried cs ++ names_of (x ∷ left)) none
+            ∙ ap (λ (n : List ℕ). names_carried ended ++ n ∷ names_of left) (sym one.name)
+            ∙ sym (append_assoc (names_carried ended) (c.name ∷ []) (names_of left))
+            ∙ ap (λ (ns : List (List ℕ)). ns ++ names_of left) (sym (map-append (λ (d : Carried). d.name) ended (c ∷ []))))
+            ∙ r.names;
+      }
+
+  -- a call that takes or ends an export is the next one of those to do
+  go_next : (call : CallOf F) (s : State) (ended : List Carried) (now : Option Carried) (left : List ExportOf) (more : List Carried) → Goes setup by (count + 1) calls tail → AreAnswered setup count (call ∷ calls) s
+      → Stands by (record { ended = ended; now = now; left = left }) s → call ∷ (carrying_calls calls ++ tail) ≡ to_do by now more → There call s (record { ended = ended; now = now; left = left }) more
+  go_next call s ended None left [] goes a h e = absurd cc
+  go_next call s ended None left (c ∷ more) goes a h e =
+      let is : call ≡ take_call by c = ap (head_or call) e in
+      subst (λ (k : CallOf F). There k s (record { ended = ended; now = None; left = left }) (c ∷ more)) (sym is)
+      (go_take s ended left c more goes (subst (λ (k : CallOf F). AreAnswered setup count (k ∷ calls) s) is a) h (ap rest_calls e))
+  go_next call s ended (Some c) left more goes a h e =
+      let is : call ≡ end_call by c = ap (head_or call) e in
+      subst (λ (k : CallOf F). There k s (record { ended = ended; now = Some c; left = left }) more) (sym is)
+      (go_end s ended left c more goes (subst (λ (k : CallOf F). AreAnswered setup count (k ∷ calls) s) is a) h (ap rest_calls e))
+
+  go_by : (call : CallOf F) (test : Bool) (s : State) (st : Standing) (more : List Carried) → Goes setup by (count + 1) calls tail → AreAnswered setup count (call ∷ calls) s → Stands by st s
+      → is_carrying call.act ≡ test → cond test (call ∷ carrying_calls calls) (carrying_calls calls) ++ tail ≡ to_do by st.now more → There call s st more
+  go_by call true s st more goes a h t e = go_next call s st.ended st.now st.left more goes a h e
+  go_by call false s st more goes a h t e = go_past call (record { state = s; answered = a; goes = goes }) st more h t e
+
+-- Over calls of several passes, of which one pass alone takes and ends exports.
+pub reaches : {F : Type 0} (setup : Setup F) (by count : ℕ) (calls tail : List (CallOf F)) → Goes setup by count calls tail
+reaches setup by count [] tail s st more h a e = record {
+  to = st;
+  later = more;
+  stands = h;
+  is = e;
+  same = refl;
+  names = append-nil (names_at st);
+}
+reaches setup by count (call ∷ calls) tail s st more h a e =
+    go_by setup by count calls tail call (is_carrying call.act) s st more (reaches setup by (count + 1) calls tail) a h refl e
+
+-- ---- to the end of the last one
+
+-- Each of these was ended, after those that were ended before.
+pub record EndsAll (by : ℕ) (ended : List Carried) (left : List ExportOf) (more : List Carried) (asked : List (List ℕ)) (new : State) : Type 0 where
+  pub over : List ExportOf
+  pub stands : Stands by (record { ended = ended ++ more; now = None; left = over }) new
+  pub names : (names_carried ended ++ names_of left) ++ asked ≡ names_carried (ended ++ more) ++ names_of over
+
+ends_by : {F : Type 0} (by : ℕ) (ended : List Carried) (left : List ExportOf) (more : List Carried) (asked : List (List ℕ)) (new : State) (there : List Carried) (now : Option Carried) (over : List ExportOf) (later : List Carried)
+    → Stands by (record { ended = there; now = now; left = over }) new → [] ≡ to_do {F = F} by now later → (ended ++ []) ++ more ≡ (there ++ listed now) ++ later
+    → (names_carried (ended ++ []) ++ names_of left) ++ asked ≡ names_carried (there ++ listed now) ++ names_of over → EndsAll by ended left more asked new
+ends_by by ended left more asked new there (Some c) over later h is same names = absurd cc
+ends_by by ended left more asked new there None over (c ∷ later) h is same names = absurd cc
+ends_by by ended left more asked new there None over [] h is same names =
+    let all : there ≡ ended ++ more =
+    sym (append-nil there) ∙ sym (append-nil (there ++ [])) ∙ sym same ∙ ap (λ (cs : List Carried). cs ++ more) (append-nil ended) in
+    record {
+      over = over;
+      stands = subst (λ (cs : List Carried). Stands by (record { ended = cs; now = None; left = over }) new) all h;
+      names = ap (λ (cs : List Carried). (names_carried cs ++ names_of left) ++ asked) (sym (append-nil ended)) ∙ names
+          ∙ ap (λ (cs : List Carried). names_carried cs ++ names_of over) (append-nil there ∙ all);
+    }
+
+pub ends_all : {F : Type 0} (setup : Setup F) (by count : ℕ) (calls : List (CallOf F)) (s : State) (ended : List Carried) (left : List ExportOf) (more : List Carried) → Stands by (record { ended = ended; now = None; left = left }) s → AreAnswered setup count calls s
+    → carrying_calls calls ≡ flat_map (carried_calls by) more → EndsAll by ended left more (flat_map asked_names calls) (after setup count (map entry_of calls) s)
+ends_all {F} setup by count calls s ended left more h a e =
+    let r = reaches setup by count calls [] s (record { ended = ended; now = None; left = left }) more h a (append-nil (carrying_calls calls) ∙ e) in
+    ends_by {F = F} by ended left more (flat_map asked_names calls) (after setup count (map entry_of calls) s) r.to.ended r.to.now r.to.left r.later r.stands r.is r.same r.names
 
 -- None is left that nobody took.
-record EndsExports (asked : List ExportOf) (carried : List Carried) (new : List ExportOf) : Type 0 where
-  exports : new ≡ map ended_export carried
-  numbers : AreNumbered 1 carried
-  names : map (λ (c : Carried). c.name) carried ≡ names_of asked
+pub record HasEnded (carried : List Carried) (asked : List (List ℕ)) (new : State) : Type 0 where
+  pub exports : new.exports ≡ map ended_export carried
+  pub numbers : AreNumbered 1 carried
+  pub names : names_carried carried ≡ asked
 
-end_exports : (asked : List ExportOf) (carried : List Carried) (new : List ExportOf) → CarriesExports [] asked carried new → position is_untaken new ≡ None → EndsExports asked carried new
-end_exports asked carried new h done =
+pub none_left : (by : ℕ) (carried : List Carried) (left : List ExportOf) (asked : List (List ℕ)) (new : State) → Stands by (record { ended = carried; now = None; left = left }) new → asked ≡ names_carried carried ++ names_of left → position is_untaken new.exports ≡ None → HasEnded carried asked new
+none_left by carried left asked new h names done =
     let ended = map ended_export carried in
-    let names = map (λ (c : Carried). c.name) carried in
-    let none : h.left ≡ [] = nothing_left ended h.left (ended_taken carried) h.untaken (sym (ap (position is_untaken) h.exports) ∙ done) in
+    let none : left ≡ [] = nothing_left ended left (ended_taken carried) h.untaken (sym (ap (position is_untaken) h.exports) ∙ done) in
     record {
       exports = h.exports ∙ ap (λ (xs : List ExportOf). ended ++ xs) none ∙ append-nil ended;
-      numbers = h.numbers;
-      names = sym (h.names ∙ ap (λ (xs : List ExportOf). names ++ names_of xs) none ∙ append-nil names);
+      numbers = subst (AreNumbered 1) (append-nil carried) h.numbers;
+      names = sym (names ∙ ap (λ (xs : List ExportOf). names_carried carried ++ names_of xs) none ∙ append-nil (names_carried carried));
     }
-
--- ---- a whole session
-
--- the calls of a course from an empty journal on
-ends_course : {F : Type 0} (setup : Setup F) (c : Course F) → HasNone IsApart (script_calls c) → AreAnswered setup 0 (course_calls c) start → position is_untaken (after setup 0 (map entry_of (course_calls c)) start).exports ≡ None
-    → (asked : List ExportOf) × (names_of asked ≡ flat_map asked_names (script_calls c)) × EndsExports asked c.carried (after setup 0 (map entry_of (course_calls c)) start).exports
-ends_course {F} setup c none answered done =
-    let ends : List (CallOf F) = flat_map (carried_calls 0) c.carried in
-    let asked = after_calls setup 0 (script_calls c) (stop_call ∷ ends) start none answered in
-    let stopped = step setup (asked.count + 1) 0 act.Stop asked.mid in
-    let carries = carry_exports setup (asked.count + 1) c.carried stopped [] asked.adds.more asked.adds.exports tt asked.adds.untaken
-    (answered_later setup asked.count stop_call ends asked.mid asked.answered) in
-    let all = subst (λ (s : State). CarriesExports [] asked.adds.more c.carried s.exports) (sym asked.last) carries in
-    (asked.adds.more, asked.adds.names, end_exports asked.adds.more c.carried (after setup 0 (map entry_of (course_calls c)) start).exports all done)
-
-module _ {M K F : Type 0} (library : M → Library F) where
-  -- All entries of a legal journal are of caller 0, who made the calls of a course; no export is left that nobody took.
-  pub record IsAlone (d : DeskOf M K) (c : Course F) : Type 0 where
-    pub known : IsDesk library d
-    pub number : d.fixed.number ≡ 0
-    pub own : own 0 d.seen ≡ d.seen
-    pub heard : heard library d ≡ course_calls c
-    pub script : HasNone IsApart (script_calls c)
-    pub done : position is_untaken (state_of library d).exports ≡ None
-
-  pub record HasExports (d : DeskOf M K) (c : Course F) : Type 0 where
-    pub exports : (state_of library d).exports ≡ map ended_export c.carried
-    pub numbers : AreNumbered 1 c.carried
-    pub names : map (λ (e : Carried). e.name) c.carried ≡ flat_map asked_names (script_calls c)
-
-  pub has_exports : (d : DeskOf M K) (c : Course F) → IsAlone d c → HasExports d c
-  has_exports d c a =
-      let entered = has_entries library d (course_calls c) a.known (subst (λ (n : ℕ). own n d.seen ≡ d.seen) (sym a.number) a.own) a.heard in
-      let ends = ends_course (setup_of library d) c a.script entered.answered (subst (λ (s : State). position is_untaken s.exports ≡ None) entered.state a.done) in
-      record {
-        exports = ap (λ (s : State). s.exports) entered.state ∙ ends.2.exports;
-        numbers = ends.2.numbers;
-        names = ends.2.names ∙ ends.1;
-      }

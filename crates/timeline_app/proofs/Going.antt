@@ -12,8 +12,8 @@ use Rattle.edit_desk.proofs.Holding.{HasNone, IsStop, goes_on}
 use Rattle.play_head.specs.Playing.{Setting, HasReason}
 use Rattle.play_head.specs.Work.{Turn, EndsReleased, IsIdle}
 use Rattle.timeline_app.specs.Course.{Course, script_calls}
-use Rattle.timeline_app.proofs.Exports.{IsAlone}
 use Rattle.timeline_app.proofs.Kept.{IsApart}
+use Rattle.timeline_app.proofs.Manned.{IsManned}
 
 abbrev pub IsStopped : State → Type 0
 IsStopped state = IsTrue state.is_stopped
@@ -36,9 +36,9 @@ module _ {M K F : Type 0} (library : M → Library F) where
       goes_on library start there calls (known_front library there w.rest all) (front_hears d calls IsStopped w) none zero refl in
       true≢false (sym (subst IsTrue going w.holds))
 
-  -- with just some first calls of a script the session isn't stopped
-  pub script_goes_on : (d : DeskOf M K) (c : Course F) (front rest : List (CallOf F)) → IsAlone library d c → script_calls c ≡ front ++ rest → Was library d front IsStopped → ⊥
-  script_goes_on d c front rest a e w = never_stopped d front a.known a.number (stop_none front rest (subst (HasNone IsApart) e a.script)) w
+  -- with just some first calls of a script the session isn't stopped, whatever the crew enters
+  pub script_goes_on : (d : DeskOf M K) (others : ℕ) (c : Course F) (front rest : List (CallOf F)) → IsManned library d others c → script_calls c ≡ front ++ rest → Was library d front IsStopped → ⊥
+  script_goes_on d others c front rest a e w = never_stopped d front a.known a.number (stop_none front rest (subst (HasNone IsApart) e a.script)) w
 
 module _ {M K F : Type 0} (s : Setting M F) where
   -- so that no more turns of work were made for one of three reasons

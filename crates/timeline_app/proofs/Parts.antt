@@ -26,9 +26,9 @@ use Rattle.timeline_app.proofs.Stopped.{part_says, part_shows, shows_then}
 use Rattle.timeline_app.proofs.Whole.{Scripted}
 
 module _ {M K F : Type 0} (s : Setting M F) where
-  pub scripted_whole : (old played : Player M K) (body : List BodyLine) (f : PlaysLines s old played body) (carried : List Carried) (said : Result Unit PutFault) → Scripted s old played body (record { played = f.played; halted = None; carried = carried; said = said }) (Ok tt)
-  scripted_whole old played body f carried said = record {
-    part = part_whole s old played body f carried said;
+  pub scripted_whole : (old played : Player M K) (body : List BodyLine) (f : PlaysLines s old played body) (early late : List Carried) (said : Result Unit PutFault) → Scripted s old played body (record { played = f.played; halted = None; early = early; late = late; said = said }) (Ok tt)
+  scripted_whole old played body f early late said = record {
+    part = part_whole s old played body f early late said;
     says = subst (λ (ls : List OutLine). GotAll s.tells.out old.out played.out (texts ls)) (sym (append-nil (flat_map (lines_of (s.library old.desk.fixed.library)) f.played))) f.puts.0;
     shows = subst (GotAll s.tells.screen old.screen played.screen) (sym (append-nil (flat_map (rows_of s (s.library old.desk.fixed.library)) f.played))) f.puts.1;
     le = f.lasts.out;
@@ -50,9 +50,9 @@ module _ {M K F : Type 0} (s : Setting M F) where
       refused_there s old.desk halted.desk new calls more left len owing empty script ends h.1
 
   -- a line that stopped, after others, with its stop line
-  pub scripted_front : (old halted : Player M K) (after : SinkSeen) (body : List BodyLine) (why : Halt) (f : PlaysFront s old halted body why) (what : Stop) (silenced : Bool) (carried : List Carried) (said : Result Unit PutFault) → heard s.library old.desk ≡ [] → SaysStop s.tells.out halted.out after (f.line.call, why) (what, silenced) → halted.out.faults ≤ after.faults → Scripted s old (record halted { out = after }) body (record { played = f.plays.played; halted = Some (halted_by s f.between halted f.line why f.part); carried = carried; said = said }) (said_by (Err what) silenced)
-  scripted_front old halted after body why f what silenced carried said empty stop later =
-      let part = part_front s old halted body why f carried said in
+  pub scripted_front : (old halted : Player M K) (after : SinkSeen) (body : List BodyLine) (why : Halt) (f : PlaysFront s old halted body why) (what : Stop) (silenced : Bool) (early late : List Carried) (said : Result Unit PutFault) → heard s.library old.desk ≡ [] → SaysStop s.tells.out halted.out after (f.line.call, why) (what, silenced) → halted.out.faults ≤ after.faults → Scripted s old (record halted { out = after }) body (record { played = f.plays.played; halted = Some (halted_by s f.between halted f.line why f.part); early = early; late = late; said = said }) (said_by (Err what) silenced)
+  scripted_front old halted after body why f what silenced early late said empty stop later =
+      let part = part_front s old halted body why f early late said in
       let here = subst (λ (l : BodyLine). SaysStop s.tells.out halted.out after (l.call, why) (what, silenced)) (sym f.part.is) stop in
       record {
         part = record { lines = part.lines; whole = part.whole; begun = part.begun; hears = part.hears };
@@ -63,5 +63,5 @@ module _ {M K F : Type 0} (s : Setting M F) where
             (output_by s f.between halted f.part.played f.part.left why f.part.stops).rows (Some why) f.plays.puts.1 f.plays.lasts.screen (part_shows s f.between halted f.part.played f.part.left why f.part.stops);
         le = (let a = f.plays.lasts.out in let b = f.lasts.out in omega (arith, a, b, later));
         files = f.lasts.files ∙ f.plays.lasts.files;
-        cause = λ new out more h more_faults. cause_of old f.between halted f.part.played f.part.left why f.part.stops (script_calls (record { played = f.plays.played; halted = Some (halted_by s f.between halted f.line why f.part); carried = carried; said = said })) new out more f.plays.lasts f.lasts empty part.hears h (let a = more_faults in omega (arith, later, a));
+        cause = λ new out more h more_faults. cause_of old f.between halted f.part.played f.part.left why f.part.stops (script_calls (record { played = f.plays.played; halted = Some (halted_by s f.between halted f.line why f.part); early = early; late = late; said = said })) new out more f.plays.lasts f.lasts empty part.hears h (let a = more_faults in omega (arith, later, a));
       }

@@ -43,33 +43,36 @@ told_status tells old new call why what true said endings (inr (got, inr h)) k =
 
 module _ {M K F : Type 0} (s : Setting M F) (old played : Player M K) (body : List BodyLine) where
   -- a script that ended so has a course, with exports and puts of any kind after it
-  pub record HasCourse (r : Result Unit Stop) (carried : List Carried) (one said : Result Unit PutFault) : Type 0 where
+  pub record HasCourse (r : Result Unit Stop) (early late : List Carried) (one said : Result Unit PutFault) : Type 0 where
     pub course : Course F
-    pub carries : course.carried ≡ carried
+    pub early_is : course.early ≡ early
+    pub late_is : course.late ≡ late
     pub says : course.said ≡ said
     pub scripted : Scripted s old played body course one
     pub status : (endings : List Ending) → IsSaid one said → final_status said (option_map (λ (h : Halted F). stop_of h.why) course.halted) endings ≡ final_status said (stop_in r) endings
 
-  stopped_course : (carried : List Carried) (said : Result Unit PutFault) (what : Stop) (silenced : Bool) → old.desk.seen ≡ [] → StopsScript s old played body (what, silenced) → HasCourse (Err what) carried (said_by (Err what) silenced) said
-  stopped_course carried said what silenced empty x =
+  stopped_course : (early late : List Carried) (said : Result Unit PutFault) (what : Stop) (silenced : Bool) → old.desk.seen ≡ [] → StopsScript s old played body (what, silenced) → HasCourse (Err what) early late (said_by (Err what) silenced) said
+  stopped_course early late said what silenced empty x =
       let f = x.plays in
-      let c : Course F = record { played = f.plays.played; halted = Some (halted_by s f.between x.halted f.line x.why f.part); carried = carried; said = said } in
-      let there = scripted_front s old x.halted played.out body x.why f what silenced carried said (heard_nothing s old.desk empty) x.says x.only.later in
+      let c : Course F = record { played = f.plays.played; halted = Some (halted_by s f.between x.halted f.line x.why f.part); early = early; late = late; said = said } in
+      let there = scripted_front s old x.halted played.out body x.why f what silenced early late said (heard_nothing s old.desk empty) x.says x.only.later in
       record {
         course = c;
-        carries = refl;
+        early_is = refl;
+        late_is = refl;
         says = refl;
         scripted = subst (λ (p : Player M K). Scripted s old p body c (said_by (Err what) silenced)) (player_is x.halted played x.only) there;
         status = λ endings k. told_status s.tells.out x.halted.out played.out f.line.call x.why what silenced said endings x.says k;
       }
 
-  pub script_course : (carried : List Carried) (said : Result Unit PutFault) (r : Result Unit Stop) (silenced : Bool) → old.desk.seen ≡ [] → PlaysScript s old played body (r, silenced) → HasCourse r carried (said_by r silenced) said
-  script_course carried said (Ok done) false empty x = record {
-    course = record { played = x.played; halted = None; carried = carried; said = said };
-    carries = refl;
+  pub script_course : (early late : List Carried) (said : Result Unit PutFault) (r : Result Unit Stop) (silenced : Bool) → old.desk.seen ≡ [] → PlaysScript s old played body (r, silenced) → HasCourse r early late (said_by r silenced) said
+  script_course early late said (Ok done) false empty x = record {
+    course = record { played = x.played; halted = None; early = early; late = late; said = said };
+    early_is = refl;
+    late_is = refl;
     says = refl;
-    scripted = scripted_whole s old played body x carried said;
+    scripted = scripted_whole s old played body x early late said;
     status = λ endings k. refl;
   }
-  script_course carried said (Ok done) true empty x = absurd x
-  script_course carried said (Err what) silenced empty x = stopped_course carried said what silenced empty x
+  script_course early late said (Ok done) true empty x = absurd x
+  script_course early late said (Err what) silenced empty x = stopped_course early late said what silenced empty x

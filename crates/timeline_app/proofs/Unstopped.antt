@@ -37,10 +37,10 @@ module _ {M K F : Type 0} (s : Setting M F) where
 
   pub script_goes : (old new : Player M K) (body : List BodyLine) (r : Result Unit Stop) (silenced : Bool) → old.desk.fixed.number ≡ 0 → old.desk.seen ≡ [] → IsDesk s.library new.desk → PlaysScript s old new body (r, silenced) → GoesOn s.library new.desk
   script_goes old new body (Ok done) false zero empty known x =
-      part_goes old new body (record { played = x.played; halted = None; carried = []; said = Ok tt }) (part_whole s old new body x [] (Ok tt)) zero empty known
+      part_goes old new body (record { played = x.played; halted = None; early = []; late = []; said = Ok tt }) (part_whole s old new body x [] [] (Ok tt)) zero empty known
   script_goes old new body (Ok done) true zero empty known x = absurd x
   script_goes old new body (Err what) silenced zero empty known x =
       let f = x.plays in
-      let c : Course F = record { played = f.plays.played; halted = Some (halted_by s f.between x.halted f.line x.why f.part); carried = []; said = Ok tt } in
+      let c : Course F = record { played = f.plays.played; halted = Some (halted_by s f.between x.halted f.line x.why f.part); early = []; late = []; said = Ok tt } in
       subst (GoesOn s.library) (sym x.only.desk)
-      (part_goes old x.halted body c (part_front s old x.halted body x.why f [] (Ok tt)) zero empty (subst (IsDesk s.library) x.only.desk known))
+      (part_goes old x.halted body c (part_front s old x.halted body x.why f [] [] (Ok tt)) zero empty (subst (IsDesk s.library) x.only.desk known))

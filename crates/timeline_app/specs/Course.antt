@@ -1,7 +1,8 @@
 -- What a session does from its start to its end: the lines of its script, the stop, and the exports.
-use Rattle.std.specs.Prelude.{◌≡◌, ◌⊎◌, ◌<◌, ℕ, ◌+◌, Bool, IsTrue, List, [], ◌∷◌, ◌++◌, length, map, Option, Some, None, Result, Ok, Err}
+use Rattle.std.specs.Prelude.{◌≡◌, ◌⊎◌, ◌<◌, ◌≤◌, ℕ, ◌+◌, Bool, IsTrue, List, [], ◌∷◌, ◌++◌, length, map, Option, Some, None, Result, Ok, Err}
 use Rattle.std.specs.List.{flat_map}
 use Rattle.std.specs.Option.{option_map}
+use Rattle.pic_planes.specs.Picture.{Image}
 use Rattle.tl_model.specs.Media.{Library}
 use Rattle.tl_model.specs.declared.journal.Act.{Act}
 use Rattle.tl_model.specs.declared.journal.Act.TheVariants as act
@@ -10,25 +11,27 @@ use Rattle.tl_ports.specs.declared.fault.FetchFault.TheVariants as fetching
 use Rattle.tl_ports.specs.declared.fault.PutFault.{PutFault}
 use Rattle.tl_ports.specs.declared.fault.PutFault.TheVariants as putting
 use Rattle.tl_ports.specs.Outside.{Rose, FetchHasCause}
-use Rattle.tl_ports.specs.Seen.{VaultSeen, SinkSeen}
+use Rattle.tl_ports.specs.Seen.{Outside, VaultSeen, SinkSeen, Telling}
 use Rattle.render_core.specs.declared.export.Stage.TheVariants as stage
-use Rattle.render_core.specs.Calls.{CallOf}
+use Rattle.render_core.specs.Calls.{CallOf, calls_of, own, own_calls}
 use Rattle.render_core.specs.Export.{ExportOf}
 use Rattle.render_core.specs.State.{owed}
 use Rattle.render_core.specs.Step.{Silent}
-use Rattle.edit_desk.specs.Desk.{DeskOf, IsDesk, Enters, state_of, heard}
+use Rattle.edit_desk.specs.Desk.{DeskOf, IsDesk, Enters, setup_of, state_of, heard}
 use Rattle.edit_desk.specs.Was.{Was}
 use Rattle.script_lang.specs.declared.out_line.OutLine.{OutLine}
 use Rattle.script_lang.specs.declared.script.BodyLine.{BodyLine}
+use Rattle.script_lang.specs.declared.script.Script.{Script}
 use Rattle.script_lang.specs.declared.script.Call.TheVariants as call
 use Rattle.play_head.specs.declared.halt.Halt.{Halt}
 use Rattle.play_head.specs.declared.halt.Halt.TheVariants as halt
 use Rattle.play_head.specs.declared.stop.Stop.{Stop}
 use Rattle.play_head.specs.Carrying.{Carried, Carrier, CarriesAll, Leaves, FinishesAll, carried_calls, carrier, exporter}
-use Rattle.play_head.specs.Playing.{Setting, Player, Played, AreWhole, HasSomeCalls, ReadsList, lines_of, rows_of}
+use Rattle.play_head.specs.Playing.{Setting, Player, Played, AreWhole, HasSomeCalls, ReadsList, lines_of, player, rows_of}
 use Rattle.play_head.specs.PlayingLine.{Output, IsUnrendered, file_wanted, next_need, no_output, output_of, texts}
-use Rattle.play_head.specs.PlayingScript.{PlaysScript, stop_lines, stop_of}
+use Rattle.play_head.specs.PlayingScript.{PlaysScript, setting_of, stop_lines, stop_of, tells_of}
 use Rattle.play_head.specs.Putting.{GotAll, GotFront}
+use Rattle.play_head.specs.Work.{Turn, AreTurns, turns_calls}
 use Rattle.timeline_app.specs.Ending.{end_lines, final_status}
 
 -- The line that stopped a script: what it did and what it put by then, the acts that are left of it, and why it stopped.
@@ -38,13 +41,18 @@ pub record Halted (F : Type 0) : Type 0 where
   pub output : Output
   pub why : Halt
 
--- What a session did: the lines that were played to their end, the one that stopped, the exports that were carried out, and how the
--- puts to `out` went.
+-- What a session did: the lines that were played to their end, the one that stopped, the exports that the exporter carried out, those
+-- that were left and carried out after them, and how the puts to `out` went.
 pub record Course (F : Type 0) : Type 0 where
   pub played : List (Played F)
   pub halted : Option (Halted F)
-  pub carried : List Carried
+  pub early : List Carried
+  pub late : List Carried
   pub said : Result Unit PutFault
+
+-- The exports that were carried out, in order.
+abbrev pub all_carried : {F : Type 0} → Course F → List Carried
+all_carried c = c.early ++ c.late
 
 -- ---- its calls
 
@@ -52,7 +60,7 @@ abbrev pub halted_calls : {F : Type 0} → Option (Halted F) → List (CallOf F)
 halted_calls None = []
 halted_calls (Some h) = h.played.calls
 
--- The calls of the lines, and then the stop and those of the exports.
+-- The calls of the lines, and then the stop and those of the exports that were left.
 abbrev pub script_calls : {F : Type 0} → Course F → List (CallOf F)
 script_calls c = flat_map (λ p. p.calls) c.played ++ halted_calls c.halted
 
@@ -60,7 +68,7 @@ abbrev pub stop_call : {F : Type 0} → CallOf F
 stop_call = record { pass = 0; act = act.Stop; told = Silent }
 
 abbrev pub course_calls : {F : Type 0} → Course F → List (CallOf F)
-course_calls c = script_calls c ++ stop_call ∷ flat_map (carried_calls 0) c.carried
+course_calls c = script_calls c ++ stop_call ∷ flat_map (carried_calls 0) c.late
 
 -- ---- what it puts
 
@@ -74,7 +82,7 @@ halted_rows (Some h) = h.output.rows
 
 -- The lines of the calls, the stop line, and the end lines.
 abbrev pub course_lines : {M F : Type 0} → Setting M F → Library F → Course F → List OutLine
-course_lines s lib c = flat_map (lines_of lib) c.played ++ halted_lines c.halted ++ end_lines s.clips c.carried
+course_lines s lib c = flat_map (lines_of lib) c.played ++ halted_lines c.halted ++ end_lines s.clips (all_carried c)
 
 abbrev pub course_rows : {M F : Type 0} → Setting M F → Library F → Course F → List (List ℕ)
 course_rows s lib c = flat_map (rows_of s lib) c.played ++ halted_rows c.halted
@@ -117,16 +125,37 @@ LeaveAll by old new (c ∷ more) = Leaves by old new c c.ending × LeaveAll by o
 
 -- ---- the whole
 
--- What a session plays: the setting of its player, whether its vault tells its files, and the lines of its script.
+-- What a session plays: the setting of its player, whether its vault tells its files, how many passes there are beside the player's,
+-- and the lines of its script.
 pub record Program (M F : Type 0) : Type 0 where
   pub setting : Setting M F
   pub vault_tells : Bool
+  pub others : ℕ
   pub body : List BodyLine
 
 -- What a session has: what its player has, and what is seen of its vault.
 pub record Session (M K : Type 0) : Type 0 where
   pub player : Player M K
   pub vault : VaultSeen
+
+-- The session of a desk, over the outside as it is seen.
+abbrev pub session_at : {M K : Type 0} → DeskOf M K → Outside → Session M K
+session_at desk seen = record { player = player desk seen.store seen.screen seen.out; vault = seen.vault }
+
+-- A script with its clips, and how many passes there are beside the player's.
+pub record Planned : Type 0 where
+  pub script : Script
+  pub clips : List (List ℕ × ℕ)
+  pub others : ℕ
+
+-- What is played of it, over a store of these files.
+abbrev pub program_for : {M : Type 0} → (M → Library Image) → Planned → (files : List ℕ → Option (List ℕ)) → Telling → Program M Image
+program_for library plan files tells = record {
+  setting = setting_of library plan.clips plan.script.rate files (tells_of tells.store tells.screen tells.out);
+  vault_tells = tells.vault;
+  others = plan.others;
+  body = plan.script.body;
+}
 
 -- The script's lines are those played to their end; or these, the one that stopped, and the rest.
 abbrev pub AreLines : {F : Type 0} → List BodyLine → List (Played F) → Option (Halted F) → Type 0
@@ -171,6 +200,23 @@ module _ {M K F : Type 0} where
   HasCause s old new calls None = Unit {0}
   HasCause s old new calls (Some h) = IsCause s old new (calls, h) h.why
 
+  -- The calls of the pass of this number in what is seen, and what each was told.
+  abbrev pub calls_by : (M → Library F) → DeskOf M K → (number : ℕ) → List (CallOf F)
+  calls_by library d number = own_calls number (calls_of (setup_of library d) d.seen)
+
+  -- The pass of this number made turns of work, and no other calls.
+  pub record IsWorker (library : M → Library F) (d : DeskOf M K) (number : ℕ) : Type 0 where
+    pub turns : List (Turn F)
+    pub are_turns : AreTurns turns
+    pub calls : calls_by library d number ≡ turns_calls number turns
+
+  -- What other passes than number 0 did: number 1 is the exporter and carried out these exports, the rest are workers, and no number
+  -- above this has an entry.
+  pub record IsCrew (library : M → Library F) (d : DeskOf M K) (others : ℕ) (early : List Carried) : Type 0 where
+    pub exporter : calls_by library d 1 ≡ flat_map (carried_calls 1) early
+    pub workers : (number : ℕ) → 2 ≤ number → IsWorker library d number
+    pub few : (number : ℕ) → others < number → own number d.seen ≡ []
+
   -- A session from its start, where the journal is empty, to its end, by the journal that it then has.
   pub record RunsCourse (p : Program M F) (old new : Session M K) (c : Course F) (code : ℕ) : Type 0 where
     -- 1: the journal is legal and within its limit
@@ -184,8 +230,10 @@ module _ {M K F : Type 0} where
         → Was p.setting.library new.player.desk front (λ state. IsTrue state.is_stopped) → ⊥
     -- 1: the line that stopped has some first of its calls
     pub begun : IsBegun p.setting new.player.desk c.halted
-    -- 1: the caller's calls in the journal are those of these lines, the stop, and those of the exports
+    -- 1: the caller's calls in the journal are those of these lines, the stop, and those of the exports that were left
     pub calls : heard p.setting.library new.player.desk ≡ course_calls c
+    -- 1: and the others' are those of the other exports, and turns of work
+    pub crew : IsCrew p.setting.library new.player.desk p.others c.early
     -- 2: `out` got the lines
     pub says : SaysBy p.setting.tells.out old.player.out new.player.out
         (course_lines p.setting (p.setting.library new.player.desk.fixed.library) c) c.said
@@ -193,15 +241,15 @@ module _ {M K F : Type 0} where
     pub shows : ShowsBy p.setting.tells.screen old.player.screen new.player.screen
         (course_rows p.setting (p.setting.library new.player.desk.fixed.library) c) (option_map (λ h. h.why) c.halted)
     -- 4: the exports were carried out one after another
-    pub carries : CarriesAll (carrier p.setting.library new.player.desk p.setting.rate p.vault_tells) old.vault new.vault c.carried
+    pub carries : CarriesAll (carrier p.setting.library new.player.desk p.setting.rate p.vault_tells) old.vault new.vault (all_carried c)
     -- 4: and each one's file is there at the end
-    pub files : LeaveAll (carrier p.setting.library new.player.desk p.setting.rate p.vault_tells) old.vault new.vault c.carried
+    pub files : LeaveAll (carrier p.setting.library new.player.desk p.setting.rate p.vault_tells) old.vault new.vault (all_carried c)
     -- 5: the exports that were asked for are those carried out, each with its ending
-    pub exports : (state_of p.setting.library new.player.desk).exports ≡ map ended_export c.carried
+    pub exports : (state_of p.setting.library new.player.desk).exports ≡ map ended_export (all_carried c)
     -- 5: in the order of their numbers
-    pub numbers : AreNumbered 1 c.carried
+    pub numbers : AreNumbered 1 (all_carried c)
     -- 6: the status
-    pub status : code ≡ final_status c.said (option_map (λ h. stop_of h.why) c.halted) (map (λ e. e.ending) c.carried)
+    pub status : code ≡ final_status c.said (option_map (λ h. stop_of h.why) c.halted) (map (λ e. e.ending) (all_carried c))
     -- 6: and the cause of what stopped the script
     pub cause : HasCause p.setting old.player new.player (script_calls c) c.halted
     -- the store's files stay, and no file is left begun

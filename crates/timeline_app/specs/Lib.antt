@@ -1,7 +1,9 @@
 pub mod Words
+pub mod Made
 pub mod Session
 pub mod Head
 pub mod Opening
 pub mod Ending
 pub mod Course
+pub mod Together
 pub mod Runs

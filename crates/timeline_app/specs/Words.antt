@@ -1,6 +1,7 @@
 -- The words of the command line: SCRIPT [--workers N] [--cache N] [--journal N].
-use Rattle.std.specs.Prelude.{◌≡◌, ◌⊎◌, ◌≤◌, ◌==◌, ◌&&◌, not, ℕ, Bool, true, false, List, [], ◌∷◌, length, take, codes}
-use Rattle.std.specs.Prelude.{Option, Some, None, Result, Ok, Err}
+use Rattle.std.specs.Prelude.{◌≡◌, ◌⊎◌, ◌≤◌, ◌==◌, ◌&&◌, if◌then◌else◌, not, ℕ, Bool, true, false, List, [], ◌∷◌, length}
+use Rattle.std.specs.Prelude.{take, drop, codes, Option, Some, None, Result, Ok, Err}
+use Rattle.std.specs.Option.{is_some}
 use Rattle.std.specs.Str.{bytes_eq}
 use Rattle.std.specs.Str.Parse.{digits_value, without_leading_plus}
 use Rattle.clap.specs.Values.{IsUnsignedIn}
@@ -8,6 +9,8 @@ use Rattle.clap.specs.Simple.{new_shape}
 use Rattle.clap.specs.Words.{App, Row, Rule, Text, matches_of, first_of, one_of, fault_of, new_rule}
 use Rattle.clap.specs.declared.builder.action.ArgAction.TheVariants.{Set}
 use Rattle.clap.specs.declared.builder.value_parser.ValueParser.TheVariants as parser
+use Rattle.text_words.specs.Number.{number}
+use Rattle.work_gen.specs.Answer.{max_generated}
 use Rattle.timeline_app.specs.declared.words.Asked.{Asked}
 use Rattle.timeline_app.specs.declared.words.Bounds.{Bounds}
 
@@ -38,15 +41,28 @@ command = record {
   subs = [];
 }
 
--- The script would be made from a number.
-abbrev pub is_made : Text → Bool
-is_made script = bytes_eq (take 4 script) (codes "gen:")
+-- ---- SCRIPT
+
+-- A text begins with another.
+abbrev pub begins_with : (front text : Text) → Bool
+begins_with front text = bytes_eq (take (length front) text) front
+
+-- The number N of a name `gen:N`, from 1 to 1,000 in at most four digits, the first of them no 0. Other names have none.
+unfoldable pub made_frames : Text → Option ℕ
+made_frames script =
+    if begins_with (codes "gen:") script && not (begins_with (codes "gen:0") script) then number 4 1 max_generated (drop 4 script) else None
+
+-- A name that begins with `gen:` is right where it has such a number, and any other as it is.
+abbrev pub is_name : Text → Bool
+is_name script = if begins_with (codes "gen:") script then is_some (made_frames script) else true
 
 abbrev pub is_named : Option Text → Bool
 is_named None = false
-is_named (Some script) = not (is_made script)
+is_named (Some script) = is_name script
 
--- The command accepts the words, and names a script that isn't made from a number.
+-- ---- all words
+
+-- The command accepts the words, and the script's name is right.
 abbrev pub is_of_form : List Text → Bool
 is_of_form words = (length (fault_of command words) == 0) && is_named (first_of (codes "SCRIPT") (matches_of command words))
 

@@ -4,14 +4,18 @@
 mod early;
 mod ending;
 mod head_lines;
+mod made;
 mod opening;
 mod outcome;
 mod play;
-mod run;
 mod session;
+mod together;
+mod top;
+mod way;
 mod words;
 
+pub use made::made_store;
 pub use outcome::Outcome;
-pub use run::run_alone;
 pub use session::HeadStop;
-pub use words::{Asked, read_words, wants_threads};
+pub use top::{run, run_alone};
+pub use words::{Asked, made_frames, read_words, wants_threads};

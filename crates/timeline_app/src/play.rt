@@ -4,11 +4,8 @@ ghost use Rattle.std.specs.Prelude.{◌≡◌, ◌≤◌, [], None, length};
 ghost use Rattle.std.specs.List.{flat_map};
 ghost use Rattle.tl_limits.specs.Limits.{max_clips};
 ghost use Rattle.pic_planes.specs.Picture.{Image};
-ghost use Rattle.render_core.specs.Calls.{own};
 ghost use Rattle.script_lang.specs.ScriptSound.{IsScript};
-ghost use Rattle.play_head.specs.Playing.{player};
-ghost use Rattle.play_head.specs.PlayingScript.{setting_of};
-ghost use Rattle.timeline_app.specs.Course.{Course, PlaysAll, RunsCourse, SaysRest};
+ghost use Rattle.timeline_app.specs.Course.{Course, PlaysAll, RunsCourse, SaysRest, program_for, session_at};
 ghost use Rattle.timeline_app.specs.Ending.{entry_lines, said_by};
 
 use crate::ending::{final_status, say_endings};
@@ -43,14 +40,12 @@ where
     requires main { (D.desk desk.old).fixed.number ≡ 0 }
     requires fresh { (D.desk desk.old).seen ≡ [] }
     ensures { PlaysAll
-        (record {
-          setting = setting_of D.Lib.library clips.now script.now.rate (T.seen store.old).file
-              (record { store = T.tells; screen = S.tells; out = O.tells });
-          vault_tells = V.tells;
-          body = script.now.body;
-        })
-        (record { player = player (D.desk desk.old) (T.seen store.old) (S.seen screen.old) (O.seen out.old); vault = V.seen vault.old })
-        (record { player = player (D.desk desk.new) (T.seen store.new) (S.seen screen.new) (O.seen out.new); vault = V.seen vault.new })
+        (program_for D.Lib.library (record { script = script.now; clips = clips.now; others = 0 }) (T.seen store.old).file
+            (record { store = T.tells; vault = V.tells; screen = S.tells; out = O.tells }))
+        (session_at (D.desk desk.old)
+            (record { store = T.seen store.old; vault = V.seen vault.old; screen = S.seen screen.old; out = O.seen out.old }))
+        (session_at (D.desk desk.new)
+            (record { store = T.seen store.new; vault = V.seen vault.new; screen = S.seen screen.new; out = O.seen out.new }))
         (result.result, result.is_silenced) }
 {
     let playback = play_script(alloc, desk, script, clips, store, screen, out, &OpenGate);
@@ -61,7 +56,7 @@ where
 }
 
 /// How the puts to `out` went while a script was played.
-fn said_by(playback: Playback) -> Result<(), PutFault>
+pub fn said_by(playback: Playback) -> Result<(), PutFault>
     ensures { result ≡ said_by playback.result playback.is_silenced }
 {
     if !playback.is_silenced {
@@ -74,7 +69,7 @@ fn said_by(playback: Playback) -> Result<(), PutFault>
 }
 
 /// Puts the end lines, unless a put before them wasn't `Ok`.
-fn say_rest<O: Sink>(
+pub fn say_rest<O: Sink>(
     alloc: Global,
     out: &mut O,
     clips: &Clips,
@@ -90,7 +85,7 @@ fn say_rest<O: Sink>(
     }
 }
 
-/// Plays a session that is begun, to its end.
+/// Plays a session that is begun to its end, alone.
 pub fn run_desk<M: Media<Frame = Picture> + Drop, T: Store, V: Vault, S: Sink, O: Sink>(
     alloc: Global,
     mut desk: Alone<M, ListLane>,
@@ -107,20 +102,13 @@ pub fn run_desk<M: Media<Frame = Picture> + Drop, T: Store, V: Vault, S: Sink, O
     requires idle { (V.seen vault.old).begun ≡ None }
     requires main { desk.fixed.number ≡ 0 }
     requires fresh { desk.seen ≡ [] }
-    ensures course { (course : Course Image) × RunsCourse
-        (record {
-          setting = setting_of M.library clips.now script.now.rate (T.seen store.old).file
-              (record { store = T.tells; screen = S.tells; out = O.tells });
-          vault_tells = V.tells;
-          body = script.now.body;
-        })
-        (record { player = player desk (T.seen store.old) (S.seen screen.old) (O.seen out.old); vault = V.seen vault.old })
-        (record {
-          player = player (record desk { seen = result.journal }) (T.seen store.new) (S.seen screen.new) (O.seen out.new);
-          vault = V.seen vault.new;
-        })
+    ensures { (course : Course Image) × RunsCourse
+        (program_for M.library (record { script = script.now; clips = clips.now; others = 0 }) (T.seen store.old).file
+            (record { store = T.tells; vault = V.tells; screen = S.tells; out = O.tells }))
+        (session_at desk (record { store = T.seen store.old; vault = V.seen vault.old; screen = S.seen screen.old; out = O.seen out.old }))
+        (session_at (record desk { seen = result.journal })
+            (record { store = T.seen store.new; vault = V.seen vault.new; screen = S.seen screen.new; out = O.seen out.new }))
         course result.status }
-    ensures alone { own 0 result.journal ≡ result.journal }
 {
     let playback = play_all(
         alloc, &mut desk, stopper, script, clips, store, vault, screen, out,

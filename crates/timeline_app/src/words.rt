@@ -1,15 +1,16 @@
 //! The words of the command line: SCRIPT [--workers N] [--cache N] [--journal N].
 
-ghost use Rattle.std.specs.Prelude.{◌≡◌, ◌≤◌, IfOk, codes, map, string_bytes, take, false};
-ghost use Rattle.std.specs.Str.{bytes_eq};
+ghost use Rattle.std.specs.Prelude.{◌≡◌, ◌≤◌, IfOk, IfSome, map, string_bytes, false};
 ghost use Rattle.clap.specs.Walk.{rows_of};
 ghost use Rattle.clap.specs.Words.{app_of, found_of, one_of, rule_of};
-ghost use Rattle.timeline_app.specs.Words.{script_rule, number_rule, command, is_made, IsNumber, AsksBy, ReadsWords, WantsThreads};
+ghost use Rattle.work_gen.specs.Answer.{IsCount};
+ghost use Rattle.timeline_app.specs.Words.{script_rule, number_rule, command, begins_with, made_frames, is_name, IsNumber, AsksBy, ReadsWords, WantsThreads};
 
 use clap::builder::ValueParser;
 use clap::error::ErrorKind;
 use clap::{Arg, ArgAction, ArgMatches, Command};
 use std::alloc::{AllocError, Global};
+use text_words::number;
 use tl_limits::{
     MAX_CACHE, MAX_JOURNAL, MAX_WORKERS, MIN_JOURNAL, USUAL_CACHE, USUAL_JOURNAL, USUAL_WORKERS,
 };
@@ -49,6 +50,9 @@ const JOURNAL: Bounds = Bounds {
     most: MAX_JOURNAL,
     usual: USUAL_JOURNAL,
 };
+
+/// The most frames of a clip that is made.
+const MOST_FRAMES: u32 = 1000;
 
 /// SCRIPT.
 fn script_argument<'a>(alloc: Global) -> Arg<'a>
@@ -113,23 +117,53 @@ fn within(n: u64, bounds: Bounds) -> u64
     n
 }
 
-/// Whether a script of this name would be made from a number.
-fn is_made(script: &str) -> bool
-    ensures { result ≡ is_made script.now }
+/// Whether a text begins with another.
+fn begins_with(front: &str, text: &str) -> bool
+    ensures { result ≡ begins_with front.now text.now }
 {
-    let bytes = script.as_bytes();
-    let front = if bytes.len() < 4 { bytes } else { &bytes[..4] };
-    front == b"gen:".as_slice()
+    let count = front.len();
+    let bytes = text.as_bytes();
+    let first = if bytes.len() < count {
+        bytes
+    } else {
+        &bytes[..count]
+    };
+    first == front.as_bytes()
 }
 
-/// What the matches of the command ask for. None comes where the script would be made from a number.
+/// How many frames the clip has that is made for a script of this name: N for `gen:N`, where N is from 1 to 1,000 and has no zeros before
+/// it. Other names have none.
+#[tactic(auto, unfolding(crate::specs::Words::made_frames))]
+pub fn made_frames(script: &str) -> Option<u32>
+    ensures exact { result ≡ made_frames script.now }
+    ensures count { IfSome result IsCount }
+{
+    if begins_with("gen:", script) && !begins_with("gen:0", script) {
+        number(4, 1, MOST_FRAMES, &script.as_bytes()[4..])
+    } else {
+        None
+    }
+}
+
+/// Whether a script may have this name: one that begins with `gen:` has to go on with a number.
+fn is_name(script: &str) -> bool
+    ensures { result ≡ is_name script.now }
+{
+    if begins_with("gen:", script) {
+        made_frames(script).is_some()
+    } else {
+        true
+    }
+}
+
+/// What the matches of the command ask for. None comes where the script's name is wrong.
 fn asked_by<'a>(matches: &ArgMatches<'a>) -> Option<Asked<'a>>
     ensures { AsksBy (rows_of (found_of matches.now)) result }
 {
     let Some(script) = matches.get_str("SCRIPT") else {
         return None;
     };
-    if is_made(script) {
+    if !is_name(script) {
         return None;
     }
     Some(Asked {
@@ -140,8 +174,8 @@ fn asked_by<'a>(matches: &ArgMatches<'a>) -> Option<Asked<'a>>
     })
 }
 
-/// Reads the words after the program's name. None comes exactly where they aren't of the form. A script whose name begins
-/// with `gen:` isn't of the form.
+/// Reads the words after the program's name. None comes exactly where they aren't of the form: the command doesn't accept them, or
+/// SCRIPT begins with `gen:` and doesn't go on with a number from 1 to 1,000 without zeros before it.
 pub fn read_words<'a>(alloc: Global, words: &'a [String]) -> Result<Option<Asked<'a>>, AllocError>
     ensures { ReadsWords (map string_bytes words.now) result }
 {

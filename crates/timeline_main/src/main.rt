@@ -1,12 +1,15 @@
 //! `timeline`: a nonlinear editor for lossless archive video, FFV1 in Matroska.
 //!
-//! `main` makes the real objects over the current folder and standard output and calls the top call.
+//! `main` makes the real objects over the current folder and standard output and calls the top call: the one with threads where the words
+//! ask for workers, and else the one that is alone.
 #![tactic(auto)]
 
 use std::process::ExitCode;
+use std::sync::Wait;
+use std::thread::Threads;
 use std::{env, io};
-use timeline_app::run_alone;
-use tl_ports::{FileSink, FolderStore, FolderVault, OutSink};
+use timeline_app::{run, run_alone, wants_threads};
+use tl_ports::{FileSink, FolderStore, FolderVault, OpenGate, OutSink};
 
 /// The file that shown frames go to.
 const SCREEN_FILE: &str = "screen.yuv";
@@ -21,24 +24,35 @@ fn words_of(rt: &HostRuntime) -> io::Result<Vec<String>> {
 }
 
 /// Runs over the current folder and standard output.
-fn run_here(rt: &HostRuntime, words: &[String]) -> io::Result<u8> {
+fn run_here<R: Threads + Wait + Sync>(
+    rt: &HostRuntime,
+    threads: &R,
+    words: &[String],
+) -> io::Result<u8> {
     let alloc = rt.alloc();
     let mut store = FolderStore::start(rt);
     let mut vault = FolderVault::start(rt);
     let mut screen = FileSink::start(rt, String::from_str(alloc, SCREEN_FILE)?);
     let mut out = OutSink::start(rt);
-    Ok(run_alone(alloc, words, &mut store, &mut vault, &mut screen, &mut out).status)
+    let outcome = if wants_threads(alloc, words)? {
+        run(
+            threads, alloc, words, &mut store, &mut vault, &mut screen, &mut out, &OpenGate,
+        )
+    } else {
+        run_alone(alloc, words, &mut store, &mut vault, &mut screen, &mut out)
+    };
+    Ok(outcome.status)
 }
 
 /// Words that can't be read are wrong words.
-fn run_words(rt: &HostRuntime) -> io::Result<u8> {
+fn run_words<R: Threads + Wait + Sync>(rt: &HostRuntime, threads: &R) -> io::Result<u8> {
     match words_of(rt) {
-        Ok(words) => run_here(rt, &words),
+        Ok(words) => run_here(rt, threads, &words),
         Err(error) if error.kind() == io::ErrorKind::OutOfMemory => Err(error),
-        Err(_) => run_here(rt, &[]),
+        Err(_) => run_here(rt, threads, &[]),
     }
 }
 
 fn main(rt: HostRuntime) -> ExitCode {
-    ExitCode::from(run_words(&rt).unwrap_or(5))
+    ExitCode::from(run_words(&rt, &rt).unwrap_or(5))
 }

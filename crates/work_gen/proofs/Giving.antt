@@ -6,12 +6,9 @@ use Rattle.std.proofs.lemmas.List.{length-append, get_or_append_left, get_or_pus
 use Rattle.ffv1_record.specs.Spelling.{record_bytes}
 use Rattle.ffv1_record.specs.Suits.{Suits}
 use Rattle.mkv_write.specs.Writing.{Writing, nothing_yet, with_packet, file_of}
-use Rattle.work_gen.specs.declared.fault.GenerateFault.{GenerateFault}
-use Rattle.work_gen.specs.declared.fault.GenerateFault.TheVariants as fault
 use Rattle.work_gen.specs.Picture.{clip_shape}
 use Rattle.work_gen.specs.Clip.{clip_record, IsPacket, ArePackets, IsClip}
-use Rattle.work_gen.specs.Answer.{HasCause}
-use Rattle.work_gen.specs.Given.{clip_with, IsGiven, AddsFrame, HasCauseAt}
+use Rattle.work_gen.specs.Given.{clip_with, IsGiven, AddsFrame}
 
 -- the slices reach the ends of the planes
 pub suits : Suits clip_record clip_shape
@@ -48,8 +45,3 @@ all_given frames writer held given is = record {
   each = given.each;
   whole = is ∙ ap file_of given.all;
 }
-
--- ---- causes
-pub cause_of : (frames frame : ℕ) (why : GenerateFault) → frame < frames → HasCauseAt frame why → HasCause frames why
-cause_of frames frame fault.SliceTooLong lt long = record { frame = frame; within = lt; long = long }
-cause_of frames frame fault.NoMemory lt free = free

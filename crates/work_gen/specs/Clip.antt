@@ -27,13 +27,3 @@ pub record IsClip (frames : ℕ) (bytes : List ℕ) : Type 0 where
   pub count : length packets ≡ frames
   pub each : ArePackets packets
   pub whole : bytes ≡ mkv (record_bytes clip_record) 64 48 25 packets
-
--- A slice of the picture of a frame has more bytes than its size can say.
-abbrev pub IsTooLong : (frame : ℕ) → Type 0
-IsTooLong frame = Writes clip_record (picture frame) None
-
--- That of one of so many frames.
-pub record HasTooLong (frames : ℕ) : Type 0 where
-  pub frame : ℕ
-  pub within : frame < frames
-  pub long : IsTooLong frame

@@ -1,10 +1,8 @@
 -- What a writer of the clip was given.
-use Rattle.std.specs.Prelude.{◌≡◌, ⊤, ℕ, List, length}
+use Rattle.std.specs.Prelude.{◌≡◌, ℕ, List, length}
 use Rattle.ffv1_record.specs.Spelling.{record_bytes}
 use Rattle.mkv_write.specs.Writing.{Writing, nothing_yet, with_packet}
-use Rattle.work_gen.specs.declared.fault.GenerateFault.{GenerateFault}
-use Rattle.work_gen.specs.declared.fault.GenerateFault.TheVariants as fault
-use Rattle.work_gen.specs.Clip.{clip_record, IsPacket, ArePackets, IsTooLong}
+use Rattle.work_gen.specs.Clip.{clip_record, IsPacket, ArePackets}
 
 -- The file of the clip that has these packets so far.
 abbrev pub clip_with : List (List ℕ) → Writing
@@ -20,8 +18,3 @@ pub record IsGiven (frames : ℕ) (writer : Writing) : Type 0 where
 -- It was given the packet of one more frame.
 abbrev pub AddsFrame : (frame : ℕ) (old new : Writing) → Type 0
 AddsFrame frame old new = (packet : List ℕ) × IsPacket frame packet × (new ≡ with_packet old packet)
-
--- Why a frame wasn't given: its picture has no packet, or memory ran out.
-abbrev pub HasCauseAt : (frame : ℕ) → GenerateFault → Type 0
-HasCauseAt frame fault.SliceTooLong = IsTooLong frame
-HasCauseAt frame fault.NoMemory = ⊤

@@ -1,10 +1,9 @@
 //! The file of the clip.
-ghost use Rattle.std.specs.Prelude.{◌≡◌, [], IsTrue, Some, IfOk, IfErr, codes};
+ghost use Rattle.std.specs.Prelude.{◌≡◌, [], IsTrue, Some, IfOk, codes};
 ghost use Rattle.work_gen.specs.Picture.{clip_shape};
-ghost use Rattle.work_gen.specs.Clip.{clip_record};
-ghost use Rattle.work_gen.specs.Answer.{IsCount, GivesClip};
+ghost use Rattle.work_gen.specs.Clip.{clip_record, IsClip};
+ghost use Rattle.work_gen.specs.Answer.{IsCount};
 
-use crate::fault::GenerateFault;
 use crate::frames::write_clip;
 use ffv1_record::{Coder, Record, default_record};
 use pic_planes::{Chroma, Shape};
@@ -12,15 +11,15 @@ use std::alloc::{AllocError, Global};
 use tl_ports::{CleanVault, Vault};
 
 /// The file of the clip of so many frames.
-pub(crate) fn clip_file(alloc: Global, frames: u32) -> Result<Vec<u8>, GenerateFault>
+pub(crate) fn clip_file(alloc: Global, frames: u32) -> Result<Vec<u8>, AllocError>
     requires { IsCount frames }
-    ensures { GivesClip frames result }
+    ensures { IfOk result (λ bytes. IsClip frames bytes.items) }
 {
     let coding = coding(alloc)?;
     let mut vault = CleanVault::start(alloc);
     match vault.begin(name()) {
         Ok(()) => begun_file(alloc, &coding, frames, &mut vault),
-        Err(_) => Err(GenerateFault::NoMemory),
+        Err(_) => Err(AllocError),
     }
 }
 
@@ -30,12 +29,12 @@ fn begun_file(
     coding: &Record,
     frames: u32,
     vault: &mut CleanVault,
-) -> Result<Vec<u8>, GenerateFault>
+) -> Result<Vec<u8>, AllocError>
     requires coding { coding.now ≡ clip_record }
     requires frames { IsCount frames }
     requires begun { (⟦<CleanVault as Vault>⟧.seen vault.old).begun ≡ Some (codes "g.mkv") }
     requires file { (⟦<CleanVault as Vault>⟧.seen vault.old).file (codes "g.mkv") ≡ Some [] }
-    ensures { GivesClip frames result }
+    ensures { IfOk result (λ bytes. IsClip frames bytes.items) }
 {
     holds(vault, name());
     write_clip(alloc, coding, frames, vault)?;

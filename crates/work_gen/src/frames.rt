@@ -1,20 +1,19 @@
 //! The frames of the clip, one after the other. The vault is one that never fails, so what stops a writer is want of memory.
-ghost use Rattle.std.specs.Prelude.{IsTrue, ◌≡◌, ◌<◌, ◌≤◌, [], IsSome, OnOk, IfOk, IfErr, length, vec_len};
+ghost use Rattle.std.specs.Prelude.{IsTrue, ◌≡◌, ◌<◌, ◌≤◌, [], IsSome, OnOk, IfOk, length, vec_len};
 ghost use Rattle.tl_limits.specs.Limits.{max_packet_bytes};
 ghost use Rattle.mkv_write.specs.Writing.{put_of};
 ghost use Rattle.work_gen.specs.Picture.{clip_shape};
 ghost use Rattle.work_gen.specs.Clip.{clip_record, IsPacket, IsClip};
-ghost use Rattle.work_gen.specs.Answer.{IsCount, HasCause, max_generated};
-ghost use Rattle.work_gen.specs.Given.{IsGiven, AddsFrame, HasCauseAt};
+ghost use Rattle.work_gen.specs.Answer.{IsCount, max_generated};
+ghost use Rattle.work_gen.specs.Given.{IsGiven, AddsFrame};
 
 use crate::clip::clip_shape;
-use crate::fault::GenerateFault;
 use crate::pictures::draw;
 use ffv1_frame::encode_frame;
 use ffv1_record::Record;
 use mkv_write::MkvWriter;
 use pic_planes::Picture;
-use std::alloc::Global;
+use std::alloc::{AllocError, Global};
 use tl_model::EncodeFault;
 use tl_ports::Vault;
 
@@ -24,19 +23,18 @@ pub(crate) fn write_clip<V: Vault>(
     coding: &Record,
     frames: u32,
     vault: &mut V,
-) -> Result<(), GenerateFault>
+) -> Result<(), AllocError>
     requires coding { coding.now ≡ clip_record }
     requires frames { IsCount frames }
     requires begun { IsSome (V.seen vault.old).begun }
     requires empty { IsTrue V.tells → (V.seen vault.old).held ≡ [] }
     ensures clip { OnOk result (IsTrue V.tells → IsClip frames (V.seen vault.new).held) }
     ensures begun { (V.seen vault.new).begun ≡ (V.seen vault.old).begun }
-    ensures cause { IfErr result (HasCause frames) }
 {
     let private = coding.write(alloc)?;
     match MkvWriter::start(alloc, vault, 64, 48, private.as_slice(), 25) {
         Ok(writer) => write_started(alloc, coding, frames, vault, writer),
-        Err(_) => Err(GenerateFault::NoMemory),
+        Err(_) => Err(AllocError),
     }
 }
 
@@ -47,7 +45,7 @@ fn write_started<V: Vault>(
     frames: u32,
     vault: &mut V,
     mut writer: MkvWriter,
-) -> Result<(), GenerateFault>
+) -> Result<(), AllocError>
     requires coding { coding.now ≡ clip_record }
     requires frames { IsCount frames }
     requires begun { IsSome (V.seen vault.old).begun }
@@ -55,12 +53,11 @@ fn write_started<V: Vault>(
     requires given { IsGiven 0 writer }
     ensures clip { OnOk result (IsTrue V.tells → IsClip frames (V.seen vault.new).held) }
     ensures begun { (V.seen vault.new).begun ≡ (V.seen vault.old).begun }
-    ensures cause { IfErr result (HasCause frames) }
 {
     put_frames(alloc, coding, frames, vault, &mut writer)?;
     match writer.finish(vault) {
         Ok(_) => Ok(()),
-        Err(_) => Err(GenerateFault::NoMemory),
+        Err(_) => Err(AllocError),
     }
 }
 
@@ -71,7 +68,7 @@ fn put_frames<V: Vault>(
     frames: u32,
     vault: &mut V,
     writer: &mut MkvWriter,
-) -> Result<(), GenerateFault>
+) -> Result<(), AllocError>
     requires coding { coding.now ≡ clip_record }
     requires frames { IsCount frames }
     requires begun { IsSome (V.seen vault.old).begun }
@@ -80,7 +77,6 @@ fn put_frames<V: Vault>(
     ensures given { OnOk result (IsGiven frames writer.new) }
     ensures held { OnOk result (IsTrue V.tells → (V.seen vault.new).held ≡ put_of writer.new) }
     ensures begun { (V.seen vault.new).begun ≡ (V.seen vault.old).begun }
-    ensures cause { IfErr result (HasCause frames) }
 {
     let mut picture = Picture::zero(alloc, clip_shape())?;
     for frame in 0..frames {
@@ -97,7 +93,7 @@ fn put_frame<V: Vault>(
     frame: u32,
     vault: &mut V,
     writer: &mut MkvWriter,
-) -> Result<(), GenerateFault>
+) -> Result<(), AllocError>
     requires coding { coding.now ≡ clip_record }
     requires shape { picture.old.shape ≡ clip_shape }
     requires frame { frame < max_generated }
@@ -108,35 +104,33 @@ fn put_frame<V: Vault>(
     ensures added { OnOk result (AddsFrame frame writer.old writer.new) }
     ensures held { OnOk result (IsTrue V.tells → (V.seen vault.new).held ≡ put_of writer.new) }
     ensures begun { (V.seen vault.new).begun ≡ (V.seen vault.old).begun }
-    ensures cause { IfErr result (HasCauseAt frame) }
 {
     let packet = packet_of(alloc, coding, picture, frame)?;
     match writer.frame(vault, packet.as_slice()) {
         Ok(()) => Ok(()),
-        Err(_) => Err(GenerateFault::NoMemory),
+        Err(_) => Err(AllocError),
     }
 }
 
-// Draws the picture of a frame, and codes it.
-#[tactic(auto, using(crate::proofs::Giving::suits))]
+// Draws the picture of a frame, and codes it. No slice of it is too long.
+#[tactic(auto, using(crate::proofs::Giving::suits, crate::proofs::Short::never_long))]
 fn packet_of(
     alloc: Global,
     coding: &Record,
     picture: &mut Picture,
     frame: u32,
-) -> Result<Vec<u8>, GenerateFault>
+) -> Result<Vec<u8>, AllocError>
     requires coding { coding.now ≡ clip_record }
     requires shape { picture.old.shape ≡ clip_shape }
     requires frame { frame < max_generated }
     ensures shape { picture.new.shape ≡ clip_shape }
     ensures packet { IfOk result (λ packet. IsPacket frame packet.items) }
     ensures few { IfOk result (λ packet. vec_len packet ≤ max_packet_bytes) }
-    ensures cause { IfErr result (HasCauseAt frame) }
 {
     draw(picture, frame);
     match encode_frame(alloc, coding, picture) {
         Ok(packet) => Ok(packet),
-        Err(EncodeFault::SliceTooLong) => Err(GenerateFault::SliceTooLong),
-        Err(EncodeFault::NoMemory) => Err(GenerateFault::NoMemory),
+        Err(EncodeFault::SliceTooLong) => unreachable!(),
+        Err(EncodeFault::NoMemory) => Err(AllocError),
     }
 }

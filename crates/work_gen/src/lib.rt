@@ -2,13 +2,11 @@
 #![tactic(auto)]
 
 mod clip;
-mod fault;
 mod frames;
 mod make;
 mod pictures;
 mod script;
 
-pub use fault::GenerateFault;
 pub use make::{Generated, generate};
 
 #[cfg(test)]

@@ -1,10 +1,10 @@
 //! The script and the clip.
+ghost use Rattle.std.specs.Prelude.{IfOk};
 ghost use Rattle.work_gen.specs.Answer.{IsCount, Gives};
 
 use crate::clip::clip_file;
-use crate::fault::GenerateFault;
 use crate::script::script_text;
-use std::alloc::Global;
+use std::alloc::{AllocError, Global};
 
 /// A script, and the file of the clip that it names `g.mkv`.
 #[derive(Debug, Drop)]
@@ -14,12 +14,10 @@ pub struct Generated {
 }
 
 /// Makes a script, and the clip of 1 to 1,000 frames that it takes. The clip has 64 x 48 samples in 4:2:0 at 25 frames a second, coded by the
-/// range coder in 2 x 2 slices.
-///
-/// `SliceTooLong` comes exactly where a slice of a picture has more bytes than its size can say.
-pub fn generate(alloc: Global, frames: u32) -> Result<Generated, GenerateFault>
+/// range coder in 2 x 2 slices. An error comes for want of memory alone.
+pub fn generate(alloc: Global, frames: u32) -> Result<Generated, AllocError>
     requires { IsCount frames }
-    ensures { Gives frames result }
+    ensures { IfOk result (Gives frames) }
 {
     let script = script_text(alloc, frames)?;
     let clip = clip_file(alloc, frames)?;

@@ -54,14 +54,14 @@ pub overflow_sub-result : goal.overflow_sub-result
 overflow_sub-result c =
     let is = window-self c.args.word c.ranges.word.fits in
     let both = counted c.args.word c.highest-prefix.result (bits_of 64 c.args.word) is c.highest-prefix.ensures.number (omega arith) in
-    enough c.args.word c.args.k (count_leading_zeros 32 c.highest-prefix.result) c.highest-2.result c.power-one.result (bits_of 64 c.args.word) is c.requires both.0 both.1 c.highest-2.ensures.number c.power-one.ensures
+    enough c.args.word c.args.k (count_leading_zeros 32 c.highest-prefix.result) c.leading.result c.power-one.result (bits_of 64 c.args.word) is c.requires both.0 both.1 c.leading.ensures.number c.power-one.ensures
 
 pub returns-clause-number : goal.returns-clause-number
 returns-clause-number c bits is =
     let both = counted c.args.word c.highest-prefix.result bits is c.highest-prefix.ensures.number (omega arith) in
-    read_number c.args.word c.args.k (count_leading_zeros 32 c.highest-prefix.result) c.highest-2.result c.power-one.result bits is c.requires both.0 both.1 c.highest-2.ensures.number c.power-one.ensures
+    read_number c.args.word c.args.k (count_leading_zeros 32 c.highest-prefix.result) c.leading.result c.power-one.result bits is c.requires both.0 both.1 c.leading.ensures.number c.power-one.ensures
 
 pub returns-clause-length : goal.returns-clause-length
 returns-clause-length c bits is =
     let both = counted c.args.word c.highest-prefix.result bits is c.highest-prefix.ensures.number (omega arith) in
-    read_length c.args.word c.args.k (count_leading_zeros 32 c.highest-prefix.result) c.highest-2.result bits is c.requires both.0 both.1
+    read_length c.args.word c.args.k (count_leading_zeros 32 c.highest-prefix.result) c.leading.result bits is c.requires both.0 both.1

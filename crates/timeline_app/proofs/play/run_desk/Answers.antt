@@ -2,7 +2,6 @@ use Rattle.std.proofs.Common.{◌≡◌, List, Result, sym, ap, subst, ◌∙◌
 use Rattle.std.specs.List.{flat_map}
 use Rattle.pic_planes.specs.Picture.{Image}
 use Rattle.tl_model.specs.declared.journal.Entry.{Entry}
-use Rattle.render_core.specs.Calls.{own}
 use Rattle.tl_ports.specs.declared.fault.PutFault.{PutFault}
 use Rattle.play_head.specs.Playing.{player}
 use Rattle.play_head.specs.PlayingScript.{setting_of}
@@ -11,8 +10,8 @@ use Rattle.timeline_app.specs.Ending.{entry_endings, entry_lines, final_status, 
 use Rattle.timeline_app.proofs.Finished.{has_run}
 use Rattle.timeline_app.proofs.play.run_desk.Goals as goal
 
-pub returns-clause-course : goal.returns-clause-course
-returns-clause-course g c =
+pub returns : goal.returns
+returns g c =
     let clips = c.args.clips.now in
     let played = c.play_all-playback.result in
     let before = g.O.Sink.seen c.play_all-playback.new.out in
@@ -20,6 +19,7 @@ returns-clause-course g c =
     let p : Program g.row.M.Denot Image = record {
       setting = setting_of g.M.Media.library clips c.args.script.now.rate (g.T.Store.seen c.args.store.now).file (record { store = g.T.Store.tells; screen = g.S.Sink.tells; out = g.O.Sink.tells });
       vault_tells = g.V.Vault.tells;
+      others = 0;
       body = c.args.script.now.body;
     } in
     let old : Session g.row.M.Denot (Unit {0}) = record {
@@ -45,6 +45,3 @@ returns-clause-course g c =
     (subst (λ (one : Result (Unit {0}) PutFault). SaysRest g.O.Sink.tells before after (flat_map (entry_lines clips) c.finish-journal.result) (one, c.say_rest-said.result)) c.said_by.ensures said)
     c.say_rest-said.ensures.later
     (c.final_status.ensures ∙ ap (λ (es : List Entry). final_status c.say_rest-said.result (stop_in played.result) (flat_map entry_endings es)) c.as_slice-2.ensures)
-
-pub returns-clause-alone : goal.returns-clause-alone
-returns-clause-alone g c = subst (λ (es : List Entry). own 0 es ≡ es) (sym c.finish-journal.ensures.journal) c.finish-journal.ensures.own

@@ -1,0 +1,4 @@
+pub mod Parts
+pub mod Scripts
+pub mod Slots
+pub mod Joining
