@@ -216,9 +216,9 @@ module _ {M F : Type 0} (p : Program M F) (studio : TurnOf (BoardOf M)) (old mid
         → (course : Course F) × RunsCourse p (session_at (main_desk studio []) old.seen) (session_at (main_desk studio journal) (record mid.seen { vault = vault; out = out })) course code
     ran_together out said code begins distinct lines later status =
         subst (λ (x : PassOf (BoardOf M)). (course : Course F) × RunsCourse p (session_at (plain (desk_at studio x)) old.seen)
-            (session_at (record (plain (desk_at studio x)) { seen = journal }) (record mid.seen { vault = vault; out = out })) course code) begins
+        (session_at (record (plain (desk_at studio x)) { seen = journal }) (record mid.seen { vault = vault; out = out })) course code) begins
         (has_manned p first_session last_session r silenced h.early e.finishes.0 journal said out code (finished_together distinct said)
-            (record { is = seen_all; lines = lines; later = later; status = status }))
+        (record { is = seen_all; lines = lines; later = later; status = status }))
 
 -- ---- main's pass, through the desk with which it carried out what was left
 

@@ -68,7 +68,6 @@ module _ {M F E : Type 0} (library : M → Library F) (studio : TurnOf (BoardOf 
   made number left = MadeTurns library studio number left.0
 
 module _ {M F T E : Type 0} (library : M → Library F) (studio : TurnOf (BoardOf M)) where
-
   gave : (number : ℕ) (s : Slot T (PassOf (BoardOf M) × E)) → 2 ≤ number → IsDoneAs s (made library studio number) → GaveBack library studio s
   gave number (slot.Ready task) le h = absurd h
   gave number (slot.Done left) le h = (h.2.knows, λ zero_is. absurd (omega (arith, zero_is, h.2.numbered, le)))

@@ -70,7 +70,7 @@ pub record Wants (around : Around) (outcome : Outcome) : Type 0 where
 abbrev pub PlaysOpened : (others : ℕ) → Asked → Opening → Around → Outcome → Type 0
 PlaysOpened others asked opening around outcome = Wants around outcome
     ⊎ ((course : Course Image) × RunsCourse (program_of opening others around) (session_at (desk_at asked opening.library []) around.old)
-        (session_at (desk_at asked opening.library outcome.journal) around.new) course outcome.status)
+    (session_at (desk_at asked opening.library outcome.journal) around.new) course outcome.status)
 
 -- The session didn't start, and `out` got the line that says why.
 pub record Unstarted (asked : Asked) (around : Around) (outcome : Outcome) : Type 0 where

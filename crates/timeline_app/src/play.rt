@@ -41,11 +41,11 @@ where
     requires fresh { (D.desk desk.old).seen ≡ [] }
     ensures { PlaysAll
         (program_for D.Lib.library (record { script = script.now; clips = clips.now; others = 0 }) (T.seen store.old).file
-            (record { store = T.tells; vault = V.tells; screen = S.tells; out = O.tells }))
+        (record { store = T.tells; vault = V.tells; screen = S.tells; out = O.tells }))
         (session_at (D.desk desk.old)
-            (record { store = T.seen store.old; vault = V.seen vault.old; screen = S.seen screen.old; out = O.seen out.old }))
+        (record { store = T.seen store.old; vault = V.seen vault.old; screen = S.seen screen.old; out = O.seen out.old }))
         (session_at (D.desk desk.new)
-            (record { store = T.seen store.new; vault = V.seen vault.new; screen = S.seen screen.new; out = O.seen out.new }))
+        (record { store = T.seen store.new; vault = V.seen vault.new; screen = S.seen screen.new; out = O.seen out.new }))
         (result.result, result.is_silenced) }
 {
     let playback = play_script(alloc, desk, script, clips, store, screen, out, &OpenGate);
@@ -104,10 +104,10 @@ pub fn run_desk<M: Media<Frame = Picture> + Drop, T: Store, V: Vault, S: Sink, O
     requires fresh { desk.seen ≡ [] }
     ensures { (course : Course Image) × RunsCourse
         (program_for M.library (record { script = script.now; clips = clips.now; others = 0 }) (T.seen store.old).file
-            (record { store = T.tells; vault = V.tells; screen = S.tells; out = O.tells }))
+        (record { store = T.tells; vault = V.tells; screen = S.tells; out = O.tells }))
         (session_at desk (record { store = T.seen store.old; vault = V.seen vault.old; screen = S.seen screen.old; out = O.seen out.old }))
         (session_at (record desk { seen = result.journal })
-            (record { store = T.seen store.new; vault = V.seen vault.new; screen = S.seen screen.new; out = O.seen out.new }))
+        (record { store = T.seen store.new; vault = V.seen vault.new; screen = S.seen screen.new; out = O.seen out.new }))
         course result.status }
 {
     let playback = play_all(

@@ -13,7 +13,9 @@ use crate::ending::final_status;
 use crate::outcome::Outcome;
 use crate::play::{said_by, say_rest};
 use arrayvec::ArrayVec;
-use crew::{ExporterPart, Place, ScriptPart, Seat, Shown, Slot, WorkerPart, join_all, join_in, man};
+use crew::{
+    ExporterPart, Place, ScriptPart, Seat, Shown, Slot, WorkerPart, join_all, join_in, man,
+};
 use pic_planes::Picture;
 use play_head::{Playback, finish_exports};
 use render_core::Stopper;
@@ -112,7 +114,7 @@ where
     requires idle { (V.seen vault.old).begun ≡ None }
     ensures together { WorkTogether
         (program_for M.library (record { script = plan.now.script.now; clips = plan.now.clips.now; others = 1 + plan.now.workers })
-            (T.seen store.old).file (record { store = T.tells; vault = V.tells; screen = S.tells; out = O.tells }))
+        (T.seen store.old).file (record { store = T.tells; vault = V.tells; screen = S.tells; out = O.tells }))
         studio.now
         (record {
           pass = passes.1;
@@ -141,8 +143,13 @@ where
         gate: plan.gate,
         stopper: &mut right,
     };
-    let ((exporter, vault), (main, shown)) =
-        man(rt, studio, (exporter, exports), seats, (main, plays));
+    let ((exporter, vault), (main, shown)) = man(
+        rt,
+        studio,
+        (exporter, exports),
+        seats,
+        (main, plays),
+    );
     let Shown {
         store,
         screen,
@@ -193,7 +200,7 @@ where
     requires idle { (V.seen vault.old).begun ≡ None }
     ensures { PlaysTogether
         (program_for M.library (record { script = plan.now.script.now; clips = plan.now.clips.now; others = 1 + plan.now.workers })
-            (T.seen store.old).file (record { store = T.tells; vault = V.tells; screen = S.tells; out = O.tells }))
+        (T.seen store.old).file (record { store = T.tells; vault = V.tells; screen = S.tells; out = O.tells }))
         studio.now
         (record {
           pass = main;
@@ -260,11 +267,11 @@ where
     requires idle { (V.seen vault.old).begun ≡ None }
     ensures { (course : Course Image) × RunsCourse
         (program_for M.library (record { script = script.now; clips = clips.now; others = 1 + workers })
-            (T.seen store.old).file (record { store = T.tells; vault = V.tells; screen = S.tells; out = O.tells }))
+        (T.seen store.old).file (record { store = T.tells; vault = V.tells; screen = S.tells; out = O.tells }))
         (session_at (main_desk studio [])
-            (record { store = T.seen store.old; vault = V.seen vault.old; screen = S.seen screen.old; out = O.seen out.old }))
+        (record { store = T.seen store.old; vault = V.seen vault.old; screen = S.seen screen.old; out = O.seen out.old }))
         (session_at (main_desk studio result.journal)
-            (record { store = T.seen store.new; vault = V.seen vault.new; screen = S.seen screen.new; out = O.seen out.new }))
+        (record { store = T.seen store.new; vault = V.seen vault.new; screen = S.seen screen.new; out = O.seen out.new }))
         course result.status }
 {
     let plan = Plan {

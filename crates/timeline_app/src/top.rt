@@ -42,7 +42,14 @@ fn run_asked<T: Store, V: Vault, S: Sink, O: Sink>(
 }
 
 /// Opens the session that the words ask for, and plays it beside a crew.
-fn run_manned<R: Threads + Wait + Sync, T: Store, V: Vault + Send, S: Sink, O: Sink, G: Gate + Sync>(
+fn run_manned<
+    R: Threads + Wait + Sync,
+    T: Store,
+    V: Vault + Send,
+    S: Sink,
+    O: Sink,
+    G: Gate + Sync,
+>(
     rt: &R,
     alloc: Global,
     asked: Asked,

@@ -55,7 +55,14 @@ pub fn play_alone<T: Store, V: Vault, S: Sink, O: Sink>(
 }
 
 /// Main plays it beside an exporter and the workers that were asked for, each in a thread of its own.
-pub fn play_manned<R: Threads + Wait + Sync, T: Store, V: Vault + Send, S: Sink, O: Sink, G: Gate + Sync>(
+pub fn play_manned<
+    R: Threads + Wait + Sync,
+    T: Store,
+    V: Vault + Send,
+    S: Sink,
+    O: Sink,
+    G: Gate + Sync,
+>(
     rt: &R,
     alloc: Global,
     asked: Asked,

@@ -36,7 +36,14 @@ fn run_here<R: Threads + Wait + Sync>(
     let mut out = OutSink::start(rt);
     let outcome = if wants_threads(alloc, words)? {
         run(
-            threads, alloc, words, &mut store, &mut vault, &mut screen, &mut out, &OpenGate,
+            threads,
+            alloc,
+            words,
+            &mut store,
+            &mut vault,
+            &mut screen,
+            &mut out,
+            &OpenGate,
         )
     } else {
         run_alone(alloc, words, &mut store, &mut vault, &mut screen, &mut out)

@@ -18,8 +18,13 @@ man-exporter-requires-clause-workers g c κs within =
 pub man-exporter-requires-clause-main : goal.man-exporter-requires-clause-main
 man-exporter-requires-clause-main g c κs within = (
   c.requires.knows,
-  (c.requires.script, c.requires.clips, c.requires.main, refl,
-      λ new ended known plays. (script_goes _ _ new _ ended.0 ended.1 c.requires.main c.requires.fresh known plays).going),
+  (
+    c.requires.script,
+    c.requires.clips,
+    c.requires.main,
+    refl,
+    λ new ended known plays. (script_goes _ _ new _ ended.0 ended.1 c.requires.main c.requires.fresh known plays).going,
+  ),
 )
 
 pub returns-clause-together : goal.returns-clause-together
@@ -56,4 +61,4 @@ returns-clause-seats g c =
     let studio = c.args.studio.now in
     all_ran c.args.seats.now c.man-exporter.new.workers (seated library studio) _ (λ number left. MadeTurns library studio number left.0) c.requires.seats c.man-exporter.ensures.workers
     (λ number seat left h k. made_turns library studio number seat.pass left.0 h.1 (subst (λ s. KnowsAs library s seat.pass left.0) h.0 k.0) left.1
-        (subst (λ s. WorksUntilStopped library (desk_at s seat.pass) (desk_at s left.0) left.1) h.0 k.1))
+    (subst (λ s. WorksUntilStopped library (desk_at s seat.pass) (desk_at s left.0) left.1) h.0 k.1))
