@@ -1,6 +1,6 @@
 -- What doesn't come where no count rises and the store holds what is asked for.
 use Rattle.std.proofs.Common.{◌≡◌, ℕ, ◌+◌, ◌-◌, ◌<◌, ◌≤◌, ◌^◌, min, Bool, false, ◌||◌, List, [], ◌∷◌, ◌++◌, map, length, Option, Some, None, Result, Ok, Err, inl, inr, refl, sym, ap, subst, ◌∙◌, arith, true≢false}
-use Rattle.std.specs.Prelude.{IsSome}
+use Rattle.std.specs.Prelude.{IsSome, IsTrue}
 use Rattle.std.specs.List.{AllByRecursion, list_any}
 use Rattle.tl_model.specs.Cells.{recipes}
 use Rattle.tl_model.specs.Media.{Library}
@@ -38,13 +38,13 @@ none_some o x e f = let same : None ≡ Some x = sym e ∙ f in absurd cc
 too_long : (a b limit : ℕ) → a ≡ b → a ≤ limit → limit < b → ⊥
 too_long a b limit e le lt = omega (arith, e, le, lt)
 
-pub held_fetches : (tells : Bool) (old new : StoreSeen) (file : Wanted) (fault : FetchFault) → Stays old.faults new.faults → HoldsFile old file → (fault ≡ fetching.NoMemory → ⊥)
+pub held_fetches : (tells : Bool) (old new : StoreSeen) (file : Wanted) (fault : FetchFault) → Stays old.faults new.faults → (IsTrue tells → HoldsFile old file) → (fault ≡ fetching.NoMemory → ⊥)
     → FetchHasCause tells old new file (Err fault) → ⊥
 held_fetches tells old new file fetching.Failed stays held other rose = not_rose old.faults new.faults stays rose
-held_fetches tells old new file fetching.Missing stays held other (inl h) = none_some (old.file file.name) held.0 h.1 held.1
+held_fetches tells old new file fetching.Missing stays held other (inl h) = none_some (old.file file.name) (held h.0).0 h.1 (held h.0).1
 held_fetches tells old new file fetching.Missing stays held other (inr rose) = not_rose old.faults new.faults stays rose
 held_fetches tells old new file (fetching.TooLarge limit) stays held other (e, inl h) =
-    too_long (length held.0) (length h.1.0) file.limit (ap length (some_is (old.file file.name) held.0 h.1.0 held.1 h.1.1)) held.2 h.1.2
+    let has = held h.0 in too_long (length has.0) (length h.1.0) file.limit (ap length (some_is (old.file file.name) has.0 h.1.0 has.1 h.1.1)) has.2 h.1.2
 held_fetches tells old new file (fetching.TooLarge limit) stays held other (e, inr rose) = not_rose old.faults new.faults stays rose
 held_fetches tells old new file fetching.NoMemory stays held other calm = other refl
 

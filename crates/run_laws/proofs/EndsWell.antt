@@ -22,7 +22,7 @@ use Rattle.timeline_app.specs.Opening.{IsHeadCause, IsOpened}
 use Rattle.timeline_app.specs.Runs.{EndsEarly, Misuses, RunsAsked, desk_at, program_of}
 use Rattle.timeline_app.specs.Session.{IsHead, Opens, StopsAmong, clip_at, fetched_by, text_at}
 use Rattle.timeline_app.specs.Words.{is_of_form}
-use Rattle.run_laws.specs.Law.{EndsWell}
+use Rattle.run_laws.specs.Law.{EndsWell, SessionEndsWell}
 use Rattle.run_laws.specs.Room.{room, workers_in}
 use Rattle.run_laws.specs.Sound.{HoldsFile, HoldsList, HoldsScript, IsSoundOver, Stays}
 use Rattle.run_laws.proofs.Calm.{among, held_fetches}
@@ -65,9 +65,9 @@ module _ (old new : StoreSeen) (name : List ℕ) (head : Script) (holds : HoldsS
 
   module _ (stays : Stays old.faults new.faults) (faultless : (n : ℕ) (fault : _) → StopsAmong (fetched_by true old new) head.clips (stop.Clip n fault) → ⊥) where
     store_goes : (file : List ℕ) (fault : _) → Opens (fetched_by true old new) name (Err (stop.Store file fault)) → ⊥
-    store_goes file fault (inl h) = held_fetches true old new (text_at name) fault stays script_held h.2 h.1
+    store_goes file fault (inl h) = held_fetches true old new (text_at name) fault stays (λ told. script_held) h.2 h.1
     store_goes file fault (inr (other, is, a)) =
-        held_fetches true old new (clip_at a.line) fault stays (clip_held other is a.front a.rest a.line a.parts) a.stops.2 a.stops.1
+        held_fetches true old new (clip_at a.line) fault stays (λ told. clip_held other is a.front a.rest a.line a.parts) a.stops.2 a.stops.1
 
     script_goes : (n : ℕ) (why : _) → Opens (fetched_by true old new) name (Err (stop.Script n why)) → ⊥
     script_goes n why (inl h) =
@@ -100,6 +100,12 @@ misuse_well form around outcome formed m = by_line m.says
     by_line (inl h) = absurd (true≢false (sym formed ∙ h.0))
     by_line (inr h) = memory_well around.tells.out around.old.out around.new.out out.NoMemory outcome h
 
+pub session_ends_well : SessionEndsWell
+session_ends_well others asked over outcome r sound =
+    course_well (program_of r.opening others over) (session_at (desk_at asked r.opening.library []) over.old)
+    (session_at (desk_at asked r.opening.library outcome.journal) over.new) r.course outcome.status r.runs refl sound.fits
+    (record { store = sound.calm.store; screen = sound.calm.screen; out = sound.calm.out; lists = sound.lists }) sound.calm.vault sound.packets
+
 asked_well : (others : ℕ) (asked : Asked) (over : Around) (outcome : Outcome) → RunsAsked others asked over outcome
     → IsSoundOver others asked over outcome → IsWell outcome.status
 asked_well others asked over outcome (inl u) sound =
@@ -112,10 +118,8 @@ asked_well others asked over outcome (inr r) sound =
     let head = head_is over.old.store over.old.store asked.script.now ready.head ready.holds r.opening.script is.opens.0 in
     let fits = subst (λ (h : Script). room (workers_in others) h.body ≤ asked.journal) (sym head) ready.fits in
     let lists = subst (λ (h : Script). AllByRecursion (λ (line : BodyLine). HoldsList over.old.store line.call) h.body) (sym head) ready.holds.lists in
-    course_well (program_of r.opening others over) (session_at (desk_at asked r.opening.library []) over.old)
-    (session_at (desk_at asked r.opening.library outcome.journal) over.new) r.course outcome.status r.runs refl fits
-    (record { store = sound.calm.store; screen = sound.calm.screen; out = sound.calm.out; lists = lists }) sound.calm.vault
-    (sound.packets r.opening is)
+    session_ends_well others asked over outcome r
+    (record { calm = sound.calm; fits = fits; lists = λ told. lists; packets = sound.packets r.opening is })
 
 pub ends_well : EndsWell
 ends_well others words around outcome (inl m) sound = misuse_well (is_of_form words) around outcome sound.form m

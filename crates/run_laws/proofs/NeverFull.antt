@@ -17,7 +17,7 @@ use Rattle.timeline_app.specs.Made.{Around}
 use Rattle.timeline_app.specs.Runs.{EndsEarly, Misuses, Ran, RunsAsked, desk_at, program_of}
 use Rattle.timeline_app.specs.Session.{IsHead, fetched_by}
 use Rattle.timeline_app.specs.Words.{is_of_form}
-use Rattle.run_laws.specs.Law.{NeverFull, NeverRefused}
+use Rattle.run_laws.specs.Law.{NeverFull, NeverRefused, SessionNeverFull}
 use Rattle.run_laws.specs.Room.{room, workers_in}
 use Rattle.run_laws.proofs.Full.{course_not_full, course_not_refused}
 
@@ -60,6 +60,9 @@ misuse_not_full form around outcome m six = by_line m.says
         ⊎ EndsEarly around.tells.out around.old.out around.new.out (out.NoMemory, 5) outcome → ⊥
     by_line (inl h) = early_not_full around.tells.out around.old.out around.new.out (out.Usage, 2) outcome h.1 two_not six
     by_line (inr h) = early_not_full around.tells.out around.old.out around.new.out (out.NoMemory, 5) outcome h five_not six
+
+pub session_never_full : SessionNeverFull
+session_never_full others asked around outcome = ran_not_full others asked around outcome
 
 pub never_full : NeverFull
 never_full others words around outcome (inl m) fits six = misuse_not_full (is_of_form words) around outcome m six

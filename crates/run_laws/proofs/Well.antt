@@ -1,6 +1,6 @@
 -- A session over a sound outside succeeds, but for want of memory.
 use Rattle.std.proofs.Common.{◌≡◌, ℕ, ◌≤◌, cond, Bool, true, false, List, ◌++◌, map, Option, Some, None, Result, Ok, Err, ◌⊎◌, inl, inr, refl, sym, subst, arith}
-use Rattle.std.specs.Prelude.{flat_map}
+use Rattle.std.specs.Prelude.{IsTrue, flat_map}
 use Rattle.std.specs.List.{AllByRecursion, list_any}
 use Rattle.std.specs.Option.{option_map}
 use Rattle.tl_model.specs.declared.fault.Ending.{Ending}
@@ -54,21 +54,21 @@ said_well tells old new lines (Err putting.NoMemory) what endings stays says wel
 
 -- ---- what stops the script
 
--- What a session has that is sound.
-pub record IsSoundFor {M K : Type 0} (old new : Player M K) (body : List BodyLine) : Type 0 where
+-- What a session has that is sound. Of a store that tells nothing no file is asked for: a fetch that fails there raises the count.
+pub record IsSoundFor {M K : Type 0} (tells : Bool) (old new : Player M K) (body : List BodyLine) : Type 0 where
   pub store : Stays old.store.faults new.store.faults
   pub screen : Stays old.screen.faults new.screen.faults
   pub out : Stays old.out.faults new.out.faults
-  pub lists : AllByRecursion (λ (line : BodyLine). HoldsList old.store line.call) body
+  pub lists : IsTrue tells → AllByRecursion (λ (line : BodyLine). HoldsList old.store line.call) body
 
-list_fetches : (tells : Bool) (old new : StoreSeen) (c : Call) (file : List ℕ) (fault : FetchFault) → Stays old.faults new.faults → c ≡ call.Edl file → HoldsList old c → (fault ≡ fetching.NoMemory → ⊥)
+list_fetches : (tells : Bool) (old new : StoreSeen) (c : Call) (file : List ℕ) (fault : FetchFault) → Stays old.faults new.faults → c ≡ call.Edl file → (IsTrue tells → HoldsList old c) → (fault ≡ fetching.NoMemory → ⊥)
     → FetchHasCause tells old new (file_wanted c) (Err fault) → ⊥
 list_fetches tells old new c file fault stays e held other cause =
-    held_fetches tells old new (file_wanted (call.Edl file)) fault stays (subst (HoldsList old) e held) other
+    held_fetches tells old new (file_wanted (call.Edl file)) fault stays (λ told. subst (HoldsList old) e (held told)) other
     (subst (λ (x : Call). FetchHasCause tells old new (file_wanted x) (Err fault)) e cause)
 
 module _ {M K F : Type 0} (s : Setting M F) (old new : Player M K) where
-  why_well : (calls : List (CallOf F)) (h : Halted F) (body : List BodyLine) (why : Halt) → IsSoundFor old new body → HoldsList old.store h.played.line.call
+  why_well : (calls : List (CallOf F)) (h : Halted F) (body : List BodyLine) (why : Halt) → IsSoundFor s.tells.store old new body → (IsTrue s.tells.store → HoldsList old.store h.played.line.call)
       → ((len owing : ℕ) → why ≡ halt.JournalFull len owing → ⊥) → IsCause s old new (calls, h) why → IsWell (stop_status (stop_of why))
   why_well calls h body (halt.Store fault) sound held full cause =
       absurd (list_fetches s.tells.store old.store new.store h.played.line.call cause.2.0 fault sound.store cause.2.1 held cause.1 cause.0)
@@ -78,19 +78,19 @@ module _ {M K F : Type 0} (s : Setting M F) (old new : Player M K) where
   why_well calls h body halt.OutMemory sound held full cause = inr refl
   why_well calls h body (halt.JournalFull len owing) sound held full cause = absurd (full len owing refl)
 
-  halted_well : (body : List BodyLine) (ps : List (Played F)) (halted : Option (Halted F)) (status : ℕ) → IsSoundFor old new body → AreLines body ps halted
+  halted_well : (body : List BodyLine) (ps : List (Played F)) (halted : Option (Halted F)) (status : ℕ) → IsSoundFor s.tells.store old new body → AreLines body ps halted
       → ((h : Halted F) (len owing : ℕ) → halted ≡ Some h → h.why ≡ halt.JournalFull len owing → ⊥)
       → HasCause s old new (flat_map (λ (p : Played F). p.calls) ps ++ halted_calls halted) halted
       → IsWell status → IsWell (unless_stopped status (option_map (λ (h : Halted F). stop_of h.why) halted))
   halted_well body ps None status sound lines full cause well = well
   halted_well body ps (Some h) status sound lines full cause well =
-      let lists = subst (AllByRecursion (λ (line : BodyLine). HoldsList old.store line.call)) lines.1 sound.lists in
-      let held = among (λ (line : BodyLine). HoldsList old.store line.call) (map (λ (p : Played F). p.line) ps) lines.0 h.played.line lists in
+      let lists = λ (told : IsTrue s.tells.store). subst (AllByRecursion (λ (line : BodyLine). HoldsList old.store line.call)) lines.1 (sound.lists told) in
+      let held = λ (told : IsTrue s.tells.store). among (λ (line : BodyLine). HoldsList old.store line.call) (map (λ (p : Played F). p.line) ps) lines.0 h.played.line (lists told) in
       why_well (flat_map (λ (p : Played F). p.calls) ps ++ h.played.calls) h body h.why sound held (λ len owing. full h len owing refl) cause
 
 module _ {M K F : Type 0} (p : Program M F) (old new : Session M K) where
   pub course_well : (c : Course F) (code : ℕ) → RunsCourse p old new c code → new.player.desk.fixed.number ≡ 0
-      → room (workers_in p.others) p.body ≤ new.player.desk.fixed.limit → IsSoundFor old.player new.player p.body → Stays old.vault.faults new.vault.faults
+      → room (workers_in p.others) p.body ≤ new.player.desk.fixed.limit → IsSoundFor p.setting.tells.store old.player new.player p.body → Stays old.vault.faults new.vault.faults
       → AreExportable (p.setting.library new.player.desk.fixed.library) (state_of p.setting.library new.player.desk).exports → IsWell code
   course_well c code runs number fits sound vault packets =
       let endings = map (λ (e : Carried). e.ending) (all_carried c) in

@@ -11,7 +11,7 @@ use Rattle.timeline_app.specs.Runs.{Ran, Runs}
 use Rattle.timeline_app.specs.Session.{IsHead, fetched_by}
 use Rattle.timeline_app.specs.Words.{AsksFor}
 use Rattle.run_laws.specs.Room.{room, workers_in}
-use Rattle.run_laws.specs.Sound.{IsSound}
+use Rattle.run_laws.specs.Sound.{IsSound, IsSoundSession}
 
 -- The room of the script that the words name, with so many passes beside main's, is at most the limit that they give.
 abbrev pub HasRoom : (others : ℕ → ℕ) → (words : List (List ℕ)) → (given : Around) → Type 0
@@ -27,6 +27,16 @@ IsNeverRefused c = (h : Halted Image) (len owing : ℕ) → c.halted ≡ Some h 
 abbrev pub NeverRefused : Type 0
 NeverRefused = (others : ℕ) (asked : Asked) (around : Around) (outcome : Outcome) (r : Ran others asked around outcome)
     → room (workers_in others) r.opening.script.body ≤ asked.journal → IsNeverRefused r.course
+
+-- Nor does such a session end with the status of a full journal.
+abbrev pub SessionNeverFull : Type 0
+SessionNeverFull = (others : ℕ) (asked : Asked) (around : Around) (outcome : Outcome) (r : Ran others asked around outcome)
+    → room (workers_in others) r.opening.script.body ≤ asked.journal → outcome.status ≡ 6 → ⊥
+
+-- A session that is sound ends well, whether its store tells its files or not, but for want of memory.
+abbrev pub SessionEndsWell : Type 0
+SessionEndsWell = (others : ℕ) (asked : Asked) (around : Around) (outcome : Outcome) (r : Ran others asked around outcome)
+    → IsSoundSession others asked around outcome r.opening → (outcome.status ≡ 0) ⊎ (outcome.status ≡ 5)
 
 -- A run that has room doesn't end with a full journal.
 abbrev pub NeverFull : Type 0

@@ -1,5 +1,5 @@
 -- A sound outside of a run: its store tells what the script asks for, no call to it fails, and each frame that is exported has a packet.
-use Rattle.std.specs.Prelude.{◌≡◌, ℕ, ◌-◌, ◌<◌, ◌≤◌, ◌^◌, IsSome, List, length, Some, Ok, true}
+use Rattle.std.specs.Prelude.{◌≡◌, ℕ, ◌-◌, ◌<◌, ◌≤◌, ◌^◌, IsSome, IsTrue, List, length, Some, Ok, true}
 use Rattle.std.specs.List.{AllByRecursion}
 use Rattle.tl_limits.specs.Limits.{max_text_bytes}
 use Rattle.tl_model.specs.Cells.{recipes}
@@ -70,6 +70,17 @@ IsExportable {F} lib recipe = (picture : F) × (lib.render recipe ≡ Ok picture
 -- Each frame of the timelines that were asked for.
 abbrev pub AreExportable : {F : Type 0} → Library F → List ExportOf → Type 0
 AreExportable lib exports = AllByRecursion (λ (export : ExportOf). AllByRecursion (IsExportable lib) (recipes export.line)) exports
+
+-- ---- a session
+
+-- A session that was opened is sound: no count rises, its journal has room beside so many passes, and each export has its packets. Where
+-- the store tells its files, they have the edit lists that the lines read. Of one that tells nothing, as real folders do, only its count
+-- is spoken of.
+pub record IsSoundSession (others : ℕ) (asked : Asked) (over : Around) (outcome : Outcome) (opened : Opening) : Type 0 where
+  pub calm : CountsStay over.old over.new
+  pub fits : room (workers_in others) opened.script.body ≤ asked.journal
+  pub lists : IsTrue over.tells.store → AllByRecursion (λ (line : BodyLine). HoldsList over.old.store line.call) opened.script.body
+  pub packets : AreExportable (library_of opened.library) (state_of library_of (desk_at asked opened.library outcome.journal)).exports
 
 -- ---- the whole
 
