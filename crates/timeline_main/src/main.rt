@@ -4,12 +4,15 @@
 //! ask for workers, and else the one that is alone.
 #![tactic(auto)]
 
+mod rest;
+
+use rest::RestingGate;
 use std::process::ExitCode;
 use std::sync::Wait;
 use std::thread::Threads;
 use std::{env, io};
 use timeline_app::{run, run_alone, wants_threads};
-use tl_ports::{FileSink, FolderStore, FolderVault, OpenGate, OutSink};
+use tl_ports::{FileSink, FolderStore, FolderVault, OutSink};
 
 /// The file that shown frames go to.
 const SCREEN_FILE: &str = "screen.yuv";
@@ -35,6 +38,7 @@ fn run_here<R: Threads + Wait + Sync>(
     let mut screen = FileSink::start(rt, String::from_str(alloc, SCREEN_FILE)?);
     let mut out = OutSink::start(rt);
     let outcome = if wants_threads(alloc, words)? {
+        let gate = RestingGate { clock: rt };
         run(
             threads,
             alloc,
@@ -43,7 +47,7 @@ fn run_here<R: Threads + Wait + Sync>(
             &mut vault,
             &mut screen,
             &mut out,
-            &OpenGate,
+            &gate,
         )
     } else {
         run_alone(alloc, words, &mut store, &mut vault, &mut screen, &mut out)
