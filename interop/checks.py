@@ -12,6 +12,7 @@ from damaged_clips import check_damaged_clips
 from demo import check_demo
 from each_byte import check_each_byte
 from ends import check_ends
+from exports import check_exports
 from frames import check_frames, check_reader
 from generated import check_generated
 from good import check_clips
@@ -32,6 +33,7 @@ TEXT_READER = HERE.parent / "crates" / "texts_check" / "out" / "texts_check"
 PARTS = {
     "ids": lambda report, work: check_ids(report),
     "board": lambda report, work: check_board_calls(report),
+    "exports": lambda report, work: check_exports(report),
     "demo": check_demo,
     "clips": check_clips,
     "real": check_real,
