@@ -59,6 +59,11 @@ def least(runs: List[Cost]) -> Cost:
     return Cost(*(min(parts) for parts in zip(*runs)))
 
 
+def added(costs: List[Cost]) -> Cost:
+    """Commands one after another: their times together, and the highest peak."""
+    return Cost(sum(it.wall for it in costs), max(it.memory for it in costs), sum(it.processor for it in costs))
+
+
 def warm(path: Path):
     """Reads a file once, so that it lies in the cache."""
     with open(path, "rb", buffering=0) as file:
