@@ -25,12 +25,12 @@ count_shifted : (w : Writing) → (shifted w).count ≤ w.count + 1
 unfolding shifted
 count_shifted w = elim (cases_lt w.range 256) [ inl less ↦ rw (lt-ltb _ _ less) (omega arith) | inr more ↦ rw (le-ltb _ _ more) (omega arith) ]
 
-count_put : (w : Writing) (state : ℕ) (bit : Bool) → (put w state bit).count ≤ w.count + 1
+pub count_put : (w : Writing) (state : ℕ) (bit : Bool) → (put w state bit).count ≤ w.count + 1
 unfolding put chosen
 count_put w state true = count_shifted (chosen w state true)
 count_put w state false = count_shifted (chosen w state false)
 
-count_all : (w : Writing) (coded : List (ℕ × Bool)) → (put_all w coded).count ≤ w.count + length coded
+pub count_all : (w : Writing) (coded : List (ℕ × Bool)) → (put_all w coded).count ≤ w.count + length coded
 count_all w [] = omega arith
 count_all w (c ∷ more) = omega (arith, count_all (put w c.0 c.1) more, count_put w c.0 c.1)
 
@@ -41,7 +41,7 @@ part_few table coded =
     omega (arith, count_all (started table) coded, length-bytes_high_first (w.count - 1) ((w.low + 255) / 256))
 
 -- ---- bits
-length-with_states : (table set : List ℕ) (bits : List (ℕ × Bool)) → length (with_states table set bits) ≡ length bits
+pub length-with_states : (table set : List ℕ) (bits : List (ℕ × Bool)) → length (with_states table set bits) ≡ length bits
 length-with_states table set [] = refl
 length-with_states table set (bit ∷ bits) = ap suc (length-with_states table (moved table set bit.0 bit.1) bits)
 
@@ -55,7 +55,7 @@ unfolding low_bits
 length-low_bits zero magnitude = refl
 length-low_bits (suc n) magnitude = ap suc (length-low_bits n magnitude)
 
-length-magnitude : (n : ℕ) → length (magnitude_bits n) ≤ 63
+pub length-magnitude : (n : ℕ) → length (magnitude_bits n) ≤ 63
 unfolding magnitude_bits
 length-magnitude n = let e : ℕ = exponent_of n in simp length-append (omega (arith, length-ones 0 e, length-low_bits e n))
 

@@ -1,4 +1,3 @@
 pub mod Desk
 pub mod Was
 pub mod Alone
-pub mod Blanks

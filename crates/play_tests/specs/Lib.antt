@@ -1,2 +1,1 @@
 pub mod Blacks
-pub mod Blanks

@@ -1,11 +1,11 @@
 //! Exports of a board with one caller.
 
-use crate::blanks::Blanks;
 use edit_desk::{Alone, Desk};
 use play_head::finish_exports;
 use render_core::{AskReply, Stopper};
 use std::alloc::Global;
 use std::process::Abort;
+use test_media::Blanks;
 use time_list::ListLane;
 use tl_model::{Act, Edit, EditReply, Ending, Entry, Journal, Name, Side};
 use tl_ports::MemVault;

@@ -4,8 +4,6 @@
 #[cfg(test)]
 mod blacks;
 #[cfg(test)]
-mod blanks;
-#[cfg(test)]
 mod carrying;
 #[cfg(test)]
 mod playing;

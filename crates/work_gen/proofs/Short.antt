@@ -1,13 +1,12 @@
 -- How many bytes a slice of a generated picture can have: each coded bit adds at most one, and a symbol has at most 65 bits.
-use Rattle.std.proofs.Common.{◌≡◌, ℕ, zero, suc, ◌+◌, ◌-◌, ◌*◌, ◌/◌, ◌%◌, ◌<◌, ◌≤◌, Bool, true, false, eqb, None, List, [], ◌∷◌, ◌++◌, length, take, drop, replicate, refl, sym, subst, ◌∙◌, ap, arith, inl, inr}
+use Rattle.std.proofs.Common.{◌≡◌, ℕ, zero, suc, ◌+◌, ◌-◌, ◌*◌, ◌/◌, ◌%◌, ◌<◌, ◌≤◌, Bool, true, false, eqb, None, List, [], ◌∷◌, length, drop, replicate, refl, sym, subst, ap, arith, inl, inr}
 use Rattle.std.specs.Prelude.{⊤, ℤ, pos, nat_abs, slice_index}
-use Rattle.std.proofs.lemmas.Bool.{cases_Bool, cases_lt, lt-ltb, le-ltb}
+use Rattle.std.proofs.lemmas.Bool.{cases_Bool}
 use Rattle.std.proofs.lemmas.List.{length-append, length-take}
 use Rattle.byteorder.specs.Numbers.{length-bytes_high_first}
 use Rattle.pic_planes.specs.Picture.{Image, row_of}
-use Rattle.ffv1_range.specs.Transition.{moved}
-use Rattle.ffv1_range.specs.Writing.{Writing, started, chosen, shifted, put, put_all, part, with_sentinel}
-use Rattle.ffv1_range.specs.Symbol.{exponent_of, ones, low_bits, magnitude_bits, spelling, with_states, set_after}
+use Rattle.ffv1_range.specs.Writing.{Writing, started, put, part, with_sentinel}
+use Rattle.ffv1_range.specs.Symbol.{spelling, with_states}
 use Rattle.ffv1_predict.specs.Near.{context, coded}
 use Rattle.ffv1_predict.specs.Border.{Rows, near, rows_below, rows_of_plane}
 use Rattle.ffv1_slice.specs.declared.area.Area.{Area}
@@ -18,42 +17,11 @@ use Rattle.ffv1_slice.specs.Slice.{Part, Slice}
 use Rattle.ffv1_slice.specs.Header.{Numbering, numbering, with_number, with_numbers, with_header}
 use Rattle.ffv1_slice.specs.Writing.{Encoding, with_difference, WritesSample, first_samples, samples_from, samples, WritesAreas, WritesPart, WritesSlice}
 use Rattle.ffv1_frame.specs.Written.{Writes, content_start, header_written, cell_slice, IsRangeContent}
+use Rattle.clip_store.proofs.DefaultBytes.{count_put, count_all, length-with_states, length-magnitude}
 use Rattle.work_gen.specs.Picture.{clip_shape, picture}
 use Rattle.work_gen.specs.Clip.{clip_record}
 
--- ---- bytes
-count_shifted : (w : Writing) → (shifted w).count ≤ w.count + 1
-unfolding shifted
-count_shifted w = elim (cases_lt w.range 256) [ inl less ↦ rw (lt-ltb _ _ less) (omega arith) | inr more ↦ rw (le-ltb _ _ more) (omega arith) ]
-
-count_put : (w : Writing) (state : ℕ) (bit : Bool) → (put w state bit).count ≤ w.count + 1
-unfolding put chosen
-count_put w state true = count_shifted (chosen w state true)
-count_put w state false = count_shifted (chosen w state false)
-
-count_all : (w : Writing) (bits : List (ℕ × Bool)) → (put_all w bits).count ≤ w.count + length bits
-count_all w [] = omega arith
-count_all w (c ∷ more) = omega (arith, count_all (put w c.0 c.1) more, count_put w c.0 c.1)
-
 -- ---- symbols
-length-with_states : (table set : List ℕ) (bits : List (ℕ × Bool)) → length (with_states table set bits) ≡ length bits
-length-with_states table set [] = refl
-length-with_states table set (bit ∷ bits) = ap suc (length-with_states table (moved table set bit.0 bit.1) bits)
-
-length-ones : (i n : ℕ) → length (ones i n) ≡ n
-unfolding ones
-length-ones i zero = refl
-length-ones i (suc n) = ap suc (length-ones (i + 1) n)
-
-length-low_bits : (n magnitude : ℕ) → length (low_bits n magnitude) ≡ n
-unfolding low_bits
-length-low_bits zero magnitude = refl
-length-low_bits (suc n) magnitude = ap suc (length-low_bits n magnitude)
-
-length-magnitude : (n : ℕ) → length (magnitude_bits n) ≤ 63
-unfolding magnitude_bits
-length-magnitude n = let e : ℕ = exponent_of n in simp length-append (omega (arith, length-ones 0 e, length-low_bits e n))
-
 length-signed : (v : ℤ) → length (spelling v true) ≤ 65
 unfolding spelling
 length-signed v =

@@ -13,8 +13,8 @@ pub struct Generated {
     pub clip: Vec<u8>,
 }
 
-/// Makes a script, and the clip of 1 to 1,000 frames that it takes. The clip has 64 x 48 samples in 4:2:0 at 25 frames a second, coded by the
-/// range coder in 2 x 2 slices. An error comes for want of memory alone.
+/// Makes a script, and the clip of 1 to 1,000 frames that it takes. The clip has 64 x 48 samples in 4:2:0 at 25 frames a
+/// second, coded by the range coder in 2 x 2 slices. An error comes for want of memory alone.
 pub fn generate(alloc: Global, frames: u32) -> Result<Generated, AllocError>
     requires { IsCount frames }
     ensures { IfOk result (Gives frames) }

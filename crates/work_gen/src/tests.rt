@@ -9,13 +9,16 @@ use std::alloc::Global;
 use std::test::Fail;
 
 const SCRIPT_1: &[u8] =
-    b"rate 25\nclip G g.mkv\nformat as G\ninsert 0 G 0 1\nsplit 0\ndissolve 0 1\nwant 0 1\nwork 64\nplay 0\nshow 0\nundo\nredo\nexport gen.mkv\n";
+    b"rate 25\nclip G g.mkv\nformat as G\ninsert 0 G 0 1\nsplit 0\ndissolve 0 1\n\
+    want 0 1\nwork 64\nplay 0\nshow 0\nundo\nredo\nexport gen.mkv\n";
 
 const SCRIPT_10: &[u8] =
-    b"rate 25\nclip G g.mkv\nformat as G\ninsert 0 G 0 10\nsplit 5\ndissolve 5 5\nwant 0 10\nwork 64\nplay 0\nshow 5\nundo\nredo\nexport gen.mkv\n";
+    b"rate 25\nclip G g.mkv\nformat as G\ninsert 0 G 0 10\nsplit 5\ndissolve 5 5\n\
+    want 0 10\nwork 64\nplay 0\nshow 5\nundo\nredo\nexport gen.mkv\n";
 
 const SCRIPT_1000: &[u8] =
-    b"rate 25\nclip G g.mkv\nformat as G\ninsert 0 G 0 1000\nsplit 500\ndissolve 500 10\nwant 0 64\nwork 64\nplay 0\nshow 500\nundo\nredo\nexport gen.mkv\n";
+    b"rate 25\nclip G g.mkv\nformat as G\ninsert 0 G 0 1000\nsplit 500\ndissolve 500 10\n\
+    want 0 64\nwork 64\nplay 0\nshow 500\nundo\nredo\nexport gen.mkv\n";
 
 // A sample of a frame: the frame, the plane, the column, the row, and what is there.
 type Sample = (usize, u32, usize, u32, u8);

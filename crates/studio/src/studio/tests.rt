@@ -4,14 +4,12 @@ ghost use Rattle.std.specs.Prelude.{◌≡◌, []};
 ghost use Rattle.tl_model.specs.Edit.{IsEdit};
 ghost use Rattle.studio.specs.Known.{Knows};
 
-mod blanks;
-
 use super::{Pass, Studio};
 use crate::tries::Try;
-use blanks::Blanks;
 use render_core::Stopper;
 use std::alloc::Global;
 use std::sync::Wait;
+use test_media::Blanks;
 use time_list::{Lane, ListLane};
 use tl_model::{Edit, EditReply, Media, Name, Side};
 

@@ -1,13 +1,14 @@
 //! A library of one clip, of one frame, that doesn't fit.
 
-ghost use Rattle.edit_desk.specs.Blanks.{blanks};
+ghost use Rattle.test_media.specs.Blanks.{blanks};
 
 use std::alloc::{AllocError, Global};
 use std::sync::Arc;
 use tl_model::{EncodeFault, Media, Picked, Recipe};
 
+/// A library of one clip of one frame that doesn't fit; each picture is the number 0.
 #[derive(Drop)]
-pub(super) struct Blanks;
+pub struct Blanks;
 
 impl Media for Blanks {
     type Frame = u8;
