@@ -48,8 +48,8 @@ pub(crate) fn encode_rows(
     Ok(())
 }
 
-// The samples of the first row of an area.
-fn first_samples(picture: &Picture, area: Area) -> &[u8]
+/// The samples of the first row of an area.
+pub fn first_samples(picture: &Picture, area: Area) -> &[u8]
     requires plane { area.plane < plane_count picture.now.shape }
     requires y { area.y < plane_height picture.now.shape area.plane }
     requires x { area.x + area.width ≤ plane_width picture.now.shape area.plane }

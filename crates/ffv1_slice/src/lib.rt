@@ -17,6 +17,7 @@ mod scratch;
 
 pub use area::{Area, Areas};
 pub use encode_part::encode_slice;
+pub use encode_plane::first_samples;
 pub use fault::{HeaderFault, SliceFault};
 pub use header::{Grid, Header, read_header};
 pub use header_writer::write_header;
