@@ -68,6 +68,10 @@ pub record Part : Type 0 where
 abbrev pub part : List (List ℤ) → ℕ → List Area → Part
 part tables context_count areas = record { tables = tables; context_count = context_count; areas = areas }
 
+-- areas by their tables
+abbrev pub part_of : Quantization → List Area → Part
+part_of q areas = part q.tables.now q.context_count areas
+
 -- sets of states that were never used
 abbrev pub fresh_contexts : ℕ → List (List ℕ)
 fresh_contexts count = replicate count (replicate 32 128)
@@ -92,8 +96,8 @@ pub record Slice : Type 0 where
 -- by the tables of the parts and the areas of the slice
 abbrev pub slice_of : Quantization → Quantization → Areas → Slice
 slice_of luma chroma areas = record {
-  luma = part luma.tables.now luma.context_count (areas.luma ∷ []);
-  chroma = part chroma.tables.now chroma.context_count (chroma_areas areas.chroma);
+  luma = part_of luma (areas.luma ∷ []);
+  chroma = part_of chroma (chroma_areas areas.chroma);
 }
 
 -- There is a set of states for each context of the tables, and room for so many.

@@ -3,7 +3,7 @@ ghost use Rattle.std.specs.Prelude.{◌≡◌, ◌<◌, ◌≤◌, OnOk, All, le
 ghost use Rattle.ffv1_range.specs.Transition.{AllKept};
 ghost use Rattle.ffv1_slice.specs.Reading.{ContextsFit};
 ghost use Rattle.ffv1_slice.specs.Area.{AreWithin};
-ghost use Rattle.ffv1_slice.specs.Slice.{part, slice_of, IsReady, CanHold};
+ghost use Rattle.ffv1_slice.specs.Slice.{part_of, slice_of, IsReady, CanHold};
 ghost use Rattle.ffv1_slice.specs.Writing.{encoding, WritesAreas, WritesPart, WritesSlice};
 
 use crate::area::{Area, Areas};
@@ -54,26 +54,24 @@ fn encode_areas(
 /// Writes the samples of a part: areas in turn, which share the states of their contexts. Only want of memory stops it.
 pub(crate) fn encode_part(
     writer: &mut RangeWriter,
-    tables: &[[i16; 256]; 5],
-    context_count: usize,
+    quantization: Quantization<'_>,
     areas: &[Area],
     scratch: &mut Scratch,
     picture: &Picture,
 ) -> Result<(), AllocError>
-    requires contexts { context_count ≤ scratch.old.contexts }
+    requires ready { IsReady quantization scratch.old }
     requires within { AreWithin picture.now.shape scratch.old.width areas.now }
-    requires fit { ContextsFit tables.now context_count }
     requires fresh { AllKept writer.old.table (replicate 32 128) }
-    ensures ok { OnOk result (WritesPart (part tables.now context_count areas.now) picture.now writer.old writer.new) }
+    ensures ok { OnOk result (WritesPart (part_of quantization.entry areas.now) picture.now writer.old writer.new) }
     ensures table { writer.new.table ≡ writer.old.table }
     ensures room { scratch.new ≡ scratch.old }
 {
-    let contexts = scratch.contexts.slice_mut(..context_count);
+    let contexts = scratch.contexts.slice_mut(..quantization.context_count);
     freshen(contexts);
     encode_areas(
         writer,
         contexts,
-        tables,
+        quantization.tables,
         scratch.above2.as_mut_slice(),
         scratch.above.as_mut_slice(),
         scratch.row.as_mut_slice(),
@@ -101,26 +99,12 @@ pub fn encode_slice(
     ensures room { scratch.new ≡ scratch.old }
 {
     let first = [areas.luma];
-    encode_part(
-        writer,
-        luma.tables,
-        luma.context_count,
-        &first,
-        scratch,
-        picture,
-    )?;
+    encode_part(writer, luma, &first, scratch, picture)?;
     let cb = match areas.chroma {
         None => return Ok(()),
         Some(cb) => cb,
     };
     let others = [cb, Area { plane: 2, ..cb }];
-    encode_part(
-        writer,
-        chroma.tables,
-        chroma.context_count,
-        &others,
-        scratch,
-        picture,
-    )?;
+    encode_part(writer, chroma, &others, scratch, picture)?;
     Ok(())
 }

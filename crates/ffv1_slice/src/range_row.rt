@@ -53,37 +53,8 @@ fn read_sample(
 
 /// Reads the samples of a row below two others, by tables where the far neighbours count or that are flat for them. `TooLong` comes
 /// exactly at the first difference whose symbol is too long.
-pub(crate) fn decode_row<'a>(
-    reader: RangeReader<'a>,
-    contexts: &mut [States],
-    tables: &[[i16; 256]; 5],
-    far: bool,
-    above2: &[u8],
-    above: &[u8],
-    row: &mut [u8],
-) -> Result<RangeReader<'a>, TooLong>
-    requires far { far ≡ false → AreNear tables.now }
-    requires some { 0 < length row.old }
-    requires above2 { length above2.now ≡ length row.old }
-    requires above { length above.now ≡ length row.old }
-    requires fit { ContextsFit tables.now (length contexts.old) }
-    requires kept { All (AllKept reader.table) contexts.old }
-    ensures ok { IfOk result (λ after. InRow (ReadsSample tables.now) (rows above2.now above.now row.new) (length row.new)
-        (coding reader.entry contexts.old) (coding after contexts.new)) }
-    ensures too_long { OnErr result (TooLongInRow tables.now (rows above2.now above.now row.new) (coding reader.entry contexts.old)) }
-    ensures table { IfOk result (λ after. after.table ≡ reader.entry.table) }
-    ensures kept { IfOk result (λ after. All (AllKept after.table) contexts.new) }
-{
-    if far {
-        decode_row_by(reader, contexts, tables, true, above2, above, row)
-    } else {
-        decode_row_by(reader, contexts, tables, false, above2, above, row)
-    }
-}
-
-// The same, compiled once for each of the two.
 #[inline(always)]
-fn decode_row_by<'a>(
+pub(crate) fn decode_row<'a>(
     mut reader: RangeReader<'a>,
     contexts: &mut [States],
     tables: &[[i16; 256]; 5],

@@ -5,7 +5,7 @@ use Rattle.ffv1_predict.specs.declared.near.Near.{Near}
 use Rattle.ffv1_predict.specs.Border.{Rows, rows, near}
 use Rattle.ffv1_slice.specs.Reading.{Coding, coding, ReadsSample}
 use Rattle.ffv1_slice.proofs.Rows.{one_more, left_more, set_here, none_at}
-use Rattle.ffv1_slice.proofs.range_row.decode_row_by.Goals as goal
+use Rattle.ffv1_slice.proofs.range_row.decode_row.Goals as goal
 
 pub loop-x-init : goal.loop-x-init
 loop-x-init c = record { read = refl; left = c.start-left.ensures c.args.row.now; table = refl; kept = c.requires.kept }
