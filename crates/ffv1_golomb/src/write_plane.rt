@@ -1,9 +1,7 @@
 //! An area of a plane, written in Golomb-Rice mode. RFC 9043 sections 3.8.2, 4.7 and 4.8.
-ghost use Rattle.std.specs.Prelude.{◌≡◌, ◌+◌, ◌<◌, ◌≤◌, ◌^◌, OnOk, length};
-ghost use Rattle.pic_planes.specs.Shape.{plane_count, plane_width, plane_height};
+ghost use Rattle.std.specs.Prelude.{◌≡◌, ◌≤◌, ◌^◌, OnOk, length};
 ghost use Rattle.ffv1_slice.specs.Reading.{ContextsFit};
 ghost use Rattle.ffv1_slice.specs.Area.{IsWithin};
-ghost use Rattle.ffv1_slice.specs.Writing.{first_samples};
 ghost use Rattle.ffv1_golomb.specs.Writing.{WritesArea, encoding};
 ghost use Rattle.ffv1_golomb.specs.Gathered.{HasRoom, SameRoom};
 
@@ -11,7 +9,7 @@ use crate::read_plane::bottom_of;
 use crate::scratch::Gathered;
 use crate::write_row::encode_row;
 use ffv1_rice::{BitWriter, RunWriter, VlcState};
-use ffv1_slice::Area;
+use ffv1_slice::{Area, first_samples};
 use pic_planes::Picture;
 use std::alloc::AllocError;
 
@@ -47,16 +45,4 @@ pub(crate) fn encode_rows(
         above.copy_from_slice(row);
     }
     Ok(())
-}
-
-// The samples of the first row of an area.
-fn first_samples(picture: &Picture, area: Area) -> &[u8]
-    requires plane { area.plane < plane_count picture.now.shape }
-    requires y { area.y < plane_height picture.now.shape area.plane }
-    requires x { area.x + area.width ≤ plane_width picture.now.shape area.plane }
-    ensures samples { result.now ≡ first_samples picture.now area }
-    ensures len { length result.now ≡ area.width }
-{
-    let (from, width) = (area.x as usize, area.width as usize);
-    &picture.row(area.plane, area.y)[from..from + width]
 }
