@@ -1,26 +1,29 @@
 //! An area of a plane, read in Golomb-Rice mode. RFC 9043 sections 3.8.2, 4.7 and 4.8.
-ghost use Rattle.std.specs.Prelude.{◌≡◌, ◌+◌, ◌<◌, ◌≤◌, ◌^◌, IfOk, OnErr, length};
+ghost use Rattle.std.specs.Prelude.{◌≡◌, ◌+◌, ◌<◌, ◌≤◌, ◌^◌, IfOk, OnErr, length, false};
+ghost use Rattle.ffv1_predict.specs.Near.{AreNear};
 ghost use Rattle.ffv1_slice.specs.Reading.{ContextsFit};
 ghost use Rattle.ffv1_slice.specs.Area.{IsWithin};
 ghost use Rattle.ffv1_golomb.specs.Slice.{decoding, ReadsArea, OutOfRangeInArea};
 
 use crate::read_row::decode_row;
-use ffv1_predict::are_near;
 use ffv1_rice::{BitReader, OutOfRange, RunReader, VlcState};
 use ffv1_slice::Area;
 use pic_planes::Picture;
 
 // Reads the samples of an area into a picture. What the three lines hold at first doesn't count.
+#[inline(always)]
 pub(crate) fn decode_rows<'a>(
     mut bits: BitReader<'a>,
     states: &mut [VlcState],
     tables: &[[i16; 256]; 5],
+    far: bool,
     above2: &mut [u8],
     above: &mut [u8],
     row: &mut [u8],
     area: Area,
     picture: &mut Picture,
 ) -> Result<BitReader<'a>, OutOfRange>
+    requires far { far ≡ false → AreNear tables.now }
     requires above2 { length above2.old ≡ area.width }
     requires above { length above.old ≡ area.width }
     requires row { length row.old ≡ area.width }
@@ -33,7 +36,6 @@ pub(crate) fn decode_rows<'a>(
 {
     above2.fill(0);
     above.fill(0);
-    let far = !are_near(tables);
     let mut run = RunReader::start();
     for y in area.y..bottom_of(area, picture) {
         bits = decode_row(bits, &mut run, states, tables, far, above2, above, row)?;

@@ -149,37 +149,8 @@ fn read_sample(
 
 /// Reads the samples of a row below two others, by tables where the far neighbours count or that are flat for them. `OutOfRange`
 /// comes exactly at the first sample whose residual is out of range.
-pub(crate) fn decode_row<'a>(
-    bits: BitReader<'a>,
-    run: &mut RunReader,
-    states: &mut [VlcState],
-    tables: &[[i16; 256]; 5],
-    far: bool,
-    above2: &[u8],
-    above: &[u8],
-    row: &mut [u8],
-) -> Result<BitReader<'a>, OutOfRange>
-    requires far { far ≡ false → AreNear tables.now }
-    requires some { 0 < length row.old }
-    requires short { length row.old < 2 ^ 24 }
-    requires above2 { length above2.now ≡ length row.old }
-    requires above { length above.now ≡ length row.old }
-    requires fit { ContextsFit tables.now (length states.old) }
-    ensures ok { IfOk result (λ after. ReadsRow tables.now (rows above2.now above.now row.new)
-        (coding (source run.old bits.entry) states.old) (coding (source run.new after) states.new)) }
-    ensures out_of_range { OnErr result (OutOfRangeInRow tables.now (rows above2.now above.now row.new)
-        (coding (source run.old bits.entry) states.old)) }
-{
-    if far {
-        decode_row_by(bits, run, states, tables, true, above2, above, row)
-    } else {
-        decode_row_by(bits, run, states, tables, false, above2, above, row)
-    }
-}
-
-// The same, compiled once for each of the two.
 #[inline(always)]
-fn decode_row_by<'a>(
+pub(crate) fn decode_row<'a>(
     mut bits: BitReader<'a>,
     run: &mut RunReader,
     states: &mut [VlcState],

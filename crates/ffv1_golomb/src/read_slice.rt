@@ -101,26 +101,12 @@ fn decode_samples<'a>(
     ensures room { scratch.new ≡ scratch.old }
 {
     let first = [areas.luma];
-    let between = decode_part(
-        bits,
-        luma.tables,
-        luma.context_count,
-        &first,
-        scratch,
-        picture,
-    )?;
+    let between = decode_part(bits, luma, &first, scratch, picture)?;
     let cb = match areas.chroma {
         None => return Ok(between),
         Some(cb) => cb,
     };
     let others = [cb, Area { plane: 2, ..cb }];
-    let after = decode_part(
-        between,
-        chroma.tables,
-        chroma.context_count,
-        &others,
-        scratch,
-        picture,
-    )?;
+    let after = decode_part(between, chroma, &others, scratch, picture)?;
     Ok(after)
 }

@@ -2,7 +2,7 @@
 ghost use Rattle.std.specs.Prelude.{◌≡◌, ◌≤◌, ◌^◌, OnOk, length};
 ghost use Rattle.ffv1_slice.specs.Reading.{ContextsFit};
 ghost use Rattle.ffv1_slice.specs.Area.{AreWithin};
-ghost use Rattle.ffv1_slice.specs.Slice.{part, slice_of, IsReady, CanHold};
+ghost use Rattle.ffv1_slice.specs.Slice.{part_of, slice_of, IsReady, CanHold};
 ghost use Rattle.ffv1_golomb.specs.Turn.{InTurn};
 ghost use Rattle.ffv1_golomb.specs.Writing.{encoding, WritesArea, WritesPart, WritesSlice};
 ghost use Rattle.ffv1_golomb.specs.Gathered.{HasRoom, SameRoom};
@@ -57,25 +57,23 @@ fn encode_areas(
 // Writes the samples of a part: areas in turn, which share the states of their contexts. Only want of memory stops it.
 fn encode_part(
     bits: &mut BitWriter,
-    tables: &[[i16; 256]; 5],
-    context_count: usize,
+    quantization: Quantization<'_>,
     areas: &[Area],
     scratch: &mut RiceScratch,
     picture: &Picture,
 ) -> Result<(), AllocError>
-    requires contexts { context_count ≤ scratch.old.contexts }
-    requires few { context_count ≤ 2 ^ 16 }
+    requires ready { IsReady quantization scratch.old }
+    requires few { scratch.old.contexts ≤ 2 ^ 16 }
     requires within { AreWithin picture.now.shape scratch.old.width areas.now }
-    requires fit { ContextsFit tables.now context_count }
-    ensures ok { OnOk result (WritesPart picture.now (part tables.now context_count areas.now) bits.old bits.new) }
+    ensures ok { OnOk result (WritesPart picture.now (part_of quantization.entry areas.now) bits.old bits.new) }
     ensures room { scratch.new ≡ scratch.old }
 {
-    let states = scratch.states.slice_mut(..context_count);
+    let states = scratch.states.slice_mut(..quantization.context_count);
     freshen(states);
     encode_areas(
         bits,
         states,
-        tables,
+        quantization.tables,
         scratch.above2.as_mut_slice(),
         scratch.above.as_mut_slice(),
         scratch.row.as_mut_slice(),
@@ -104,26 +102,12 @@ pub fn encode_rice_slice(
     ensures room { scratch.new ≡ scratch.old }
 {
     let first = [areas.luma];
-    encode_part(
-        bits,
-        luma.tables,
-        luma.context_count,
-        &first,
-        scratch,
-        picture,
-    )?;
+    encode_part(bits, luma, &first, scratch, picture)?;
     let cb = match areas.chroma {
         None => return Ok(()),
         Some(cb) => cb,
     };
     let others = [cb, Area { plane: 2, ..cb }];
-    encode_part(
-        bits,
-        chroma.tables,
-        chroma.context_count,
-        &others,
-        scratch,
-        picture,
-    )?;
+    encode_part(bits, chroma, &others, scratch, picture)?;
     Ok(())
 }

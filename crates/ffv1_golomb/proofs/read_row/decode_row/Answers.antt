@@ -6,7 +6,7 @@ use Rattle.ffv1_slice.proofs.Rows.{left_more, set_here}
 use Rattle.ffv1_golomb.specs.Reading.{Line, line_begun}
 use Rattle.ffv1_golomb.specs.Ahead.{coding_ahead}
 use Rattle.ffv1_golomb.proofs.RowSteps.{row_begun, row_more, row_done}
-use Rattle.ffv1_golomb.proofs.read_row.decode_row_by.Goals as goal
+use Rattle.ffv1_golomb.proofs.read_row.decode_row.Goals as goal
 
 pub loop-x-init : goal.loop-x-init
 loop-x-init c = record {

@@ -4,7 +4,7 @@ use Rattle.ffv1_predict.specs.Border.{rows, left_at}
 use Rattle.ffv1_slice.specs.Order.{InRow}
 use Rattle.ffv1_golomb.specs.Reading.{line, line_begun, ReadsSample}
 use Rattle.ffv1_golomb.specs.Ahead.{coding_ahead, IsInRun}
-use Rattle.ffv1_golomb.proofs.read_row.decode_row_by.Given as goal
+use Rattle.ffv1_golomb.proofs.read_row.decode_row.Given as goal
 
 abbrev pub invariant-loop-x : goal.invariant-loop-x
 invariant-loop-x l = record {
