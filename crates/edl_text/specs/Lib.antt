@@ -5,3 +5,4 @@ pub mod Names
 pub mod Writing
 pub mod Law
 pub mod Timed
+pub mod Fault

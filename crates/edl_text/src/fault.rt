@@ -2,6 +2,7 @@
 
 ghost use Rattle.std.specs.Prelude.{◌≡◌};
 ghost use Rattle.edl_text.specs.declared.fault.EdlFault.TheVariants.{NoMemory};
+ghost use Rattle.edl_text.specs.Fault.{edl_word};
 
 use std::alloc::{AllocError, AllocFailed};
 
@@ -30,6 +31,27 @@ pub enum EdlWhy {
     OutsideClip,
     /// The event begins before the one before it ends.
     Overlap,
+}
+
+impl EdlWhy {
+    /// Its name, as a session tells it.
+    pub fn word(self) -> &'static str
+        ensures { result.now ≡ edl_word self }
+    {
+        match self {
+            EdlWhy::Drop => "Drop",
+            EdlWhy::Speed => "Speed",
+            EdlWhy::Wipe => "Wipe",
+            EdlWhy::Key => "Key",
+            EdlWhy::Unknown => "Unknown",
+            EdlWhy::Timecode => "Timecode",
+            EdlWhy::PairMissing => "PairMissing",
+            EdlWhy::UnknownClip => "UnknownClip",
+            EdlWhy::Span => "Span",
+            EdlWhy::OutsideClip => "OutsideClip",
+            EdlWhy::Overlap => "Overlap",
+        }
+    }
 }
 
 /// The first faulty line, counted from 1, or want of memory.

@@ -1,5 +1,5 @@
 -- What the lines of a script's body do, as one caller of an editing core.
-use Rattle.std.specs.Prelude.{◌≡◌, ◌⊎◌, ◌<◌, ◌≤◌, ℕ, Bool, true, false, IsTrue, List, [], ◌∷◌, ◌++◌, length, map, filter, codes, Option, Some, Result, Ok, Err}
+use Rattle.std.specs.Prelude.{◌≡◌, ◌⊎◌, ◌<◌, ◌≤◌, ℕ, Bool, true, false, IsTrue, List, [], ◌∷◌, ◌++◌, length, map, filter, Option, Some, Result, Ok, Err}
 use Rattle.std.specs.List.{count_by, flat_map}
 use Rattle.tl_limits.specs.Limits.{max_text_bytes}
 use Rattle.tl_model.specs.Media.{Library}
@@ -15,8 +15,7 @@ use Rattle.edit_desk.specs.Desk.{DeskOf}
 use Rattle.edit_desk.specs.Was.{Was}
 use Rattle.edl_text.specs.declared.fault.EdlFault.{EdlFault}
 use Rattle.edl_text.specs.declared.fault.EdlFault.TheVariants as faults
-use Rattle.edl_text.specs.declared.fault.EdlWhy.{EdlWhy}
-use Rattle.edl_text.specs.declared.fault.EdlWhy.TheVariants as why
+use Rattle.edl_text.specs.Fault.{edl_word}
 use Rattle.script_lang.specs.declared.out_line.OutLine.{OutLine}
 use Rattle.script_lang.specs.declared.out_line.OutLine.TheVariants as out
 use Rattle.script_lang.specs.declared.script.BodyLine.{BodyLine}
@@ -132,23 +131,9 @@ module _ {M K F : Type 0} where
 
 -- ---- what is put of it
 
--- why an edit list is faulty, in a word
-abbrev pub list_word : EdlWhy → List ℕ
-list_word why.Drop = codes "Drop"
-list_word why.Speed = codes "Speed"
-list_word why.Wipe = codes "Wipe"
-list_word why.Key = codes "Key"
-list_word why.Unknown = codes "Unknown"
-list_word why.Timecode = codes "Timecode"
-list_word why.PairMissing = codes "PairMissing"
-list_word why.UnknownClip = codes "UnknownClip"
-list_word why.Span = codes "Span"
-list_word why.OutsideClip = codes "OutsideClip"
-list_word why.Overlap = codes "Overlap"
-
 -- The line of an edit list that is passed over. A call is passed over for nothing else.
 abbrev pub list_line : Result (List Segment) EdlFault → OutLine
-list_line (Err (faults.Line n why)) = out.EdlLine n (list_word why)
+list_line (Err (faults.Line n why)) = out.EdlLine n (edl_word why)
 list_line (Err faults.NoMemory) = out.NoMemory
 list_line (Ok segments) = out.NoMemory
 

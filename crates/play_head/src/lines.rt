@@ -1,9 +1,8 @@
 //! A line of a script, by its call.
 
-ghost use Rattle.std.specs.Prelude.{◌≡◌, ◌≤◌, length, None};
+ghost use Rattle.std.specs.Prelude.{◌≤◌, length};
 ghost use Rattle.tl_limits.specs.Limits.{IsRate, max_clips};
 ghost use Rattle.script_lang.specs.ScriptSound.{IsCall};
-ghost use Rattle.play_head.specs.Acts.{edit_for};
 ghost use Rattle.play_head.specs.Playing.{player};
 ghost use Rattle.play_head.specs.PlayingLine.{PlaysLine};
 ghost use Rattle.play_head.specs.PlayingScript.{setting_of, tells_of};
@@ -21,44 +20,6 @@ use script_lang::{BodyLine, Call};
 use std::alloc::Global;
 use tl_model::{Clips, Media};
 use tl_ports::{Gate, Sink, Store};
-
-/// Plays a line whose call is no edit of a place.
-fn play_other<D: Desk, T: Store, S: Sink, O: Sink, G: Gate>(
-    alloc: Global,
-    desk: &mut D,
-    store: &mut T,
-    screen: &mut S,
-    out: &mut O,
-    gate: &G,
-    clips: &Clips,
-    rate: u32,
-    line: &BodyLine,
-) -> Result<(), Halt>
-where
-    D::Lib: Media<Frame = Picture>,
-    requires rate { IsRate rate }
-    requires clips { length clips.now ≤ max_clips }
-    requires call { IsCall line.now.call }
-    requires other { edit_for clips.now line.now.call ≡ None }
-    ensures { PlaysLine
-        (setting_of D.Lib.library clips.now rate (T.seen store.old).file (tells_of T.tells S.tells O.tells))
-        (player (D.desk desk.old) (T.seen store.old) (S.seen screen.old) (O.seen out.old))
-        (player (D.desk desk.new) (T.seen store.new) (S.seen screen.new) (O.seen out.new)) line.now result }
-{
-    match &line.call {
-        Call::Edl { file } => list(alloc, desk, store, out, clips, rate, file),
-        Call::Undo => undo(alloc, desk, out),
-        Call::Redo => redo(alloc, desk, out),
-        Call::Want { first, len } => want(alloc, desk, out, *first, *len),
-        Call::Cancel { first, len } => cancel(alloc, desk, out, *first, *len),
-        Call::Play { n } => play(alloc, desk, screen, out, gate, *n),
-        Call::Show { n } => show(alloc, desk, screen, out, *n),
-        Call::Roll { first, len } => roll(alloc, desk, screen, out, gate, *first, *len),
-        Call::Work { turns } => work_line(alloc, desk, out, *turns),
-        Call::Export { file } => ask(alloc, desk, out, file),
-        _ => unreachable!(),
-    }
-}
 
 /// Plays a line.
 pub(crate) fn play_line<D: Desk, T: Store, S: Sink, O: Sink, G: Gate>(
@@ -84,6 +45,18 @@ where
 {
     match edit_for(clips, &line.call) {
         Some(change) => edit(alloc, desk, out, &change),
-        None => play_other(alloc, desk, store, screen, out, gate, clips, rate, line),
+        None => match &line.call {
+            Call::Edl { file } => list(alloc, desk, store, out, clips, rate, file),
+            Call::Undo => undo(alloc, desk, out),
+            Call::Redo => redo(alloc, desk, out),
+            Call::Want { first, len } => want(alloc, desk, out, *first, *len),
+            Call::Cancel { first, len } => cancel(alloc, desk, out, *first, *len),
+            Call::Play { n } => play(alloc, desk, screen, out, gate, *n),
+            Call::Show { n } => show(alloc, desk, screen, out, *n),
+            Call::Roll { first, len } => roll(alloc, desk, screen, out, gate, *first, *len),
+            Call::Work { turns } => work_line(alloc, desk, out, *turns),
+            Call::Export { file } => ask(alloc, desk, out, file),
+            _ => unreachable!(),
+        },
     }
 }

@@ -6,7 +6,7 @@ ghost use Rattle.script_lang.specs.declared.out_line.OutLine.TheVariants as out;
 ghost use Rattle.script_lang.specs.Line.{is_listed};
 ghost use Rattle.play_head.specs.Told.{refusal_word, fault_word, edit_line, want_line, cancel_line, ask_line};
 ghost use Rattle.play_head.specs.Giving.{play_line};
-ghost use Rattle.play_head.specs.Playing.{list_word, list_line};
+ghost use Rattle.play_head.specs.Playing.{list_line};
 ghost use Rattle.edl_text.specs.declared.fault.EdlFault.TheVariants as faults;
 
 use edl_text::EdlWhy;
@@ -127,30 +127,11 @@ pub(crate) fn play_line<F>(
     }
 }
 
-/// The word for what is wrong with an edit list.
-fn list_word(why: EdlWhy) -> &'static str
-    ensures { result.now ≡ list_word why }
-{
-    match why {
-        EdlWhy::Drop => "Drop",
-        EdlWhy::Speed => "Speed",
-        EdlWhy::Wipe => "Wipe",
-        EdlWhy::Key => "Key",
-        EdlWhy::Unknown => "Unknown",
-        EdlWhy::Timecode => "Timecode",
-        EdlWhy::PairMissing => "PairMissing",
-        EdlWhy::UnknownClip => "UnknownClip",
-        EdlWhy::Span => "Span",
-        EdlWhy::OutsideClip => "OutsideClip",
-        EdlWhy::Overlap => "Overlap",
-    }
-}
-
 /// The line of an edit list that is faulty at its line `n`.
 pub(crate) fn list_line(alloc: Global, n: u32, why: EdlWhy) -> Result<OutLine, AllocError>
     ensures { IfOk result (λ line. line ≡ list_line (Err (faults.Line n why))) }
 {
-    let text = String::from_str(alloc, list_word(why))?;
+    let text = String::from_str(alloc, why.word())?;
     Ok(OutLine::EdlLine {
         n,
         why: Name::from_text(text),

@@ -8,6 +8,8 @@
 
 mod end;
 mod exporting;
+#[cfg(test)]
+mod tests;
 mod work;
 
 pub use end::{ExportEnd, WorkEnd};

@@ -75,6 +75,9 @@ pub fn work_turn<D: Desk, G: Gate>(desk: &mut D, alloc: Global, gate: &G) -> Wor
 
 /// Makes turns of work until one after which a worker doesn't go on: `Released`, `Stopped`, `JournalFull` or `NoMemory`, which is
 /// answered. Where there is nothing to do the gate is called, and the thread lets others run.
+///
+/// Of a claim that found nothing or was refused no entry tells, so the clause can't say that there was no such claim before the last.
+/// That a worker ends at the first one that is refused is tested.
 pub fn work_until_stopped<D: Desk, G: Gate, R: Wait>(
     rt: &R,
     desk: &mut D,

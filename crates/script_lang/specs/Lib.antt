@@ -11,3 +11,4 @@ pub mod ScriptText
 pub mod ScriptSound
 pub mod State
 pub mod Law
+pub mod Fault

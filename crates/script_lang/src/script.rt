@@ -1,6 +1,7 @@
 //! Scripts: a header of a rate, clips and a format, and a body of calls.
 
 ghost use Rattle.std.specs.Prelude.{◌≡◌};
+ghost use Rattle.script_lang.specs.Fault.{script_word};
 
 use std::marker::Model;
 use tl_model::Name;
@@ -226,6 +227,27 @@ pub enum ScriptFault {
     UnknownClip,
     /// A file is exported that is named before, or a list is read that is exported before.
     SameExport,
+}
+
+impl ScriptFault {
+    /// Its name, as a session tells it.
+    pub fn word(self) -> &'static str
+        ensures { result.now ≡ script_word self }
+    {
+        match self {
+            ScriptFault::Limit => "Limit",
+            ScriptFault::Utf8 => "Utf8",
+            ScriptFault::Word => "Word",
+            ScriptFault::Order => "Order",
+            ScriptFault::Count => "Count",
+            ScriptFault::Number => "Number",
+            ScriptFault::Timecode => "Timecode",
+            ScriptFault::Format => "Format",
+            ScriptFault::SameName => "SameName",
+            ScriptFault::UnknownClip => "UnknownClip",
+            ScriptFault::SameExport => "SameExport",
+        }
+    }
 }
 
 /// The first faulty line, counted from 1, or want of memory.

@@ -3,43 +3,14 @@ use Rattle.std.specs.Prelude.{ℕ, List, [], ◌∷◌, ◌++◌, flat_map, code
 use Rattle.text_words.specs.Number.{number_text}
 use Rattle.edl_text.specs.declared.event.Edl.{Edl}
 use Rattle.edl_text.specs.declared.event.Event.{Event}
-use Rattle.edl_text.specs.declared.fault.EdlWhy.{EdlWhy}
-use Rattle.edl_text.specs.declared.fault.EdlWhy.TheVariants as edl
 use Rattle.edl_text.specs.declared.fault.EdlFault.{EdlFault}
 use Rattle.edl_text.specs.declared.fault.EdlFault.TheVariants as faults
 use Rattle.script_lang.specs.declared.script.Script.{Script}
-use Rattle.script_lang.specs.declared.script.ScriptFault.{ScriptFault}
-use Rattle.script_lang.specs.declared.script.ScriptFault.TheVariants as script
 use Rattle.script_lang.specs.declared.script.ScriptRefusal.{ScriptRefusal}
 use Rattle.script_lang.specs.declared.script.ScriptRefusal.TheVariants as refusals
+use Rattle.edl_text.specs.Fault.{edl_word}
+use Rattle.script_lang.specs.Fault.{script_word}
 use Rattle.script_lang.specs.Writing.{script_text}
-
--- each fault by its name
-abbrev pub edl_word : EdlWhy → List ℕ
-edl_word edl.Drop = codes "Drop"
-edl_word edl.Speed = codes "Speed"
-edl_word edl.Wipe = codes "Wipe"
-edl_word edl.Key = codes "Key"
-edl_word edl.Unknown = codes "Unknown"
-edl_word edl.Timecode = codes "Timecode"
-edl_word edl.PairMissing = codes "PairMissing"
-edl_word edl.UnknownClip = codes "UnknownClip"
-edl_word edl.Span = codes "Span"
-edl_word edl.OutsideClip = codes "OutsideClip"
-edl_word edl.Overlap = codes "Overlap"
-
-abbrev pub script_word : ScriptFault → List ℕ
-script_word script.Limit = codes "Limit"
-script_word script.Utf8 = codes "Utf8"
-script_word script.Word = codes "Word"
-script_word script.Order = codes "Order"
-script_word script.Count = codes "Count"
-script_word script.Number = codes "Number"
-script_word script.Timecode = codes "Timecode"
-script_word script.Format = codes "Format"
-script_word script.SameName = codes "SameName"
-script_word script.UnknownClip = codes "UnknownClip"
-script_word script.SameExport = codes "SameExport"
 
 unfoldable pub fault_text : (n : ℕ) (why : List ℕ) → List ℕ
 fault_text n why = codes "line " ++ (number_text 1 n ++ 32 ∷ (why ++ 10 ∷ []))

@@ -8,7 +8,7 @@ ghost use Rattle.script_lang.specs.ScriptText.{script};
 ghost use Rattle.texts_check.specs.Answer.{list_answer, script_answer};
 
 use crate::event::put_events;
-use crate::fault::{edl_word, put_fault, script_word};
+use crate::fault::put_fault;
 use edl_text::{EdlFault, read_edl};
 use script_lang::{ScriptRefusal, read_script, write_script};
 use std::alloc::{AllocError, Global};
@@ -22,7 +22,7 @@ pub fn list_answer(alloc: Global, text: &[u8], rate: u32) -> Result<Vec<u8>, All
     let mut out = Vec::new(alloc);
     match read_edl(alloc, text, rate) {
         Ok(list) => put_events(&mut out, list.events.as_slice())?,
-        Err(EdlFault::Line { n, why }) => put_fault(&mut out, n, edl_word(why))?,
+        Err(EdlFault::Line { n, why }) => put_fault(&mut out, n, why.word())?,
         Err(EdlFault::NoMemory) => return Err(AllocError),
     }
     Ok(out)
@@ -36,7 +36,7 @@ pub fn script_answer(alloc: Global, text: &[u8]) -> Result<Vec<u8>, AllocError>
         Ok(script) => Ok(write_script(alloc, &script)?),
         Err(ScriptRefusal::Fault { n, why }) => {
             let mut out = Vec::new(alloc);
-            put_fault(&mut out, n, script_word(why))?;
+            put_fault(&mut out, n, why.word())?;
             Ok(out)
         }
         Err(ScriptRefusal::NoMemory) => Err(AllocError),

@@ -1,48 +1,10 @@
-//! Faults by their names.
+//! The line of a fault.
 
 ghost use Rattle.std.specs.Prelude.{◌≡◌, ◌++◌, OnOk};
-ghost use Rattle.texts_check.specs.Answer.{edl_word, script_word, fault_text};
+ghost use Rattle.texts_check.specs.Answer.{fault_text};
 
-use edl_text::EdlWhy;
-use script_lang::ScriptFault;
 use std::alloc::AllocError;
 use text_words::put_number;
-
-pub fn edl_word(why: EdlWhy) -> &'static str
-    ensures { result.now ≡ edl_word why }
-{
-    match why {
-        EdlWhy::Drop => "Drop",
-        EdlWhy::Speed => "Speed",
-        EdlWhy::Wipe => "Wipe",
-        EdlWhy::Key => "Key",
-        EdlWhy::Unknown => "Unknown",
-        EdlWhy::Timecode => "Timecode",
-        EdlWhy::PairMissing => "PairMissing",
-        EdlWhy::UnknownClip => "UnknownClip",
-        EdlWhy::Span => "Span",
-        EdlWhy::OutsideClip => "OutsideClip",
-        EdlWhy::Overlap => "Overlap",
-    }
-}
-
-pub fn script_word(why: ScriptFault) -> &'static str
-    ensures { result.now ≡ script_word why }
-{
-    match why {
-        ScriptFault::Limit => "Limit",
-        ScriptFault::Utf8 => "Utf8",
-        ScriptFault::Word => "Word",
-        ScriptFault::Order => "Order",
-        ScriptFault::Count => "Count",
-        ScriptFault::Number => "Number",
-        ScriptFault::Timecode => "Timecode",
-        ScriptFault::Format => "Format",
-        ScriptFault::SameName => "SameName",
-        ScriptFault::UnknownClip => "UnknownClip",
-        ScriptFault::SameExport => "SameExport",
-    }
-}
 
 /// Puts the line of a fault.
 #[tactic(auto, using(std::proofs::Common::append_assoc), unfolding(crate::specs::Answer::fault_text))]

@@ -12,13 +12,14 @@ use Rattle.clip_store.specs.declared.fault.LoadFault.TheVariants as load
 use Rattle.script_lang.specs.declared.out_line.OutLine.TheVariants as out
 use Rattle.script_lang.specs.declared.script.ScriptFault.{ScriptFault}
 use Rattle.script_lang.specs.declared.script.ScriptFault.TheVariants as script
+use Rattle.script_lang.specs.Fault.{script_word}
 use Rattle.script_lang.specs.Line.{fields, is_listed}
 use Rattle.play_head.specs.PlayingScript.{store_word}
 use Rattle.timeline_app.specs.declared.session.HeadStop.{HeadStop}
 use Rattle.timeline_app.specs.declared.session.HeadStop.TheVariants as stop
 use Rattle.timeline_app.specs.Session.{Fetching}
 use Rattle.timeline_app.specs.Opening.{IsHeadCause}
-use Rattle.timeline_app.specs.Head.{clip_line, clip_word, head_line, load_line, record_line, record_word, script_word}
+use Rattle.timeline_app.specs.Head.{clip_line, clip_word, head_line, load_line, record_line, record_word}
 
 store_listed : (name : List ℕ) (fault : FetchFault) → (fault ≡ fetching.NoMemory → ⊥) → IsTrue (is_listed (out.Store name (store_word fault)))
 unfolding fields

@@ -18,8 +18,7 @@ use Rattle.script_lang.specs.declared.script.CoderWord.TheVariants as word
 use Rattle.script_lang.specs.declared.script.FormatLine.{FormatLine}
 use Rattle.script_lang.specs.declared.script.FormatLine.TheVariants as line
 use Rattle.script_lang.specs.declared.script.Script.{Script}
-use Rattle.script_lang.specs.declared.script.ScriptFault.{ScriptFault}
-use Rattle.script_lang.specs.declared.script.ScriptFault.TheVariants as script
+use Rattle.script_lang.specs.Fault.{script_word}
 use Rattle.script_lang.specs.Header.{chroma_planes}
 use Rattle.play_head.specs.Acts.{clip_number}
 use Rattle.play_head.specs.PlayingScript.{store_word}
@@ -43,20 +42,6 @@ format_for clips (line.Own width height chroma coding columns rows) =
     format.Own (layout width height (chroma_planes chroma)) (coder_for coding) columns rows
 
 -- ---- the line of a stop before the start
-
--- what is wrong with a line of a script, in a word
-abbrev pub script_word : ScriptFault → List ℕ
-script_word script.Limit = codes "Limit"
-script_word script.Utf8 = codes "Utf8"
-script_word script.Word = codes "Word"
-script_word script.Order = codes "Order"
-script_word script.Count = codes "Count"
-script_word script.Number = codes "Number"
-script_word script.Timecode = codes "Timecode"
-script_word script.Format = codes "Format"
-script_word script.SameName = codes "SameName"
-script_word script.UnknownClip = codes "UnknownClip"
-script_word script.SameExport = codes "SameExport"
 
 -- what is wrong with a clip's file and with its record, in a word; none for want of memory
 abbrev pub clip_word : ClipFault → Option (List ℕ)

@@ -2,35 +2,16 @@
 
 ghost use Rattle.std.specs.Prelude.{◌≡◌, IfOk, option_map};
 ghost use Rattle.script_lang.specs.declared.out_line.OutLine.TheVariants as out;
-ghost use Rattle.timeline_app.specs.Head.{script_word, clip_word, record_word, clip_line, record_line, load_line, head_line, head_status};
+ghost use Rattle.timeline_app.specs.Head.{clip_word, record_word, clip_line, record_line, load_line, head_line, head_status};
 
 use crate::session::HeadStop;
 use clip_store::LoadFault;
 use ffv1_record::RecordFault;
 use mkv_read::ClipFault;
 use play_head::store_word;
-use script_lang::{OutLine, ScriptFault};
+use script_lang::OutLine;
 use std::alloc::{AllocError, Global};
 use tl_model::Name;
-
-/// What is wrong with a line of a script, in a word.
-fn script_word(why: ScriptFault) -> &'static str
-    ensures { result.now ≡ script_word why }
-{
-    match why {
-        ScriptFault::Limit => "Limit",
-        ScriptFault::Utf8 => "Utf8",
-        ScriptFault::Word => "Word",
-        ScriptFault::Order => "Order",
-        ScriptFault::Count => "Count",
-        ScriptFault::Number => "Number",
-        ScriptFault::Timecode => "Timecode",
-        ScriptFault::Format => "Format",
-        ScriptFault::SameName => "SameName",
-        ScriptFault::UnknownClip => "UnknownClip",
-        ScriptFault::SameExport => "SameExport",
-    }
-}
 
 /// What is wrong with a clip's file, in a word. None is want of memory.
 fn clip_word(fault: ClipFault) -> Option<&'static str>
@@ -137,7 +118,7 @@ pub fn head_line(alloc: Global, why: &HeadStop) -> Result<OutLine, AllocError>
             let kind = named(alloc, store_word(*fault))?;
             Ok(OutLine::Store { name, kind })
         }
-        HeadStop::Script { n, why } => script_line(alloc, *n, script_word(*why)),
+        HeadStop::Script { n, why } => script_line(alloc, *n, why.word()),
         HeadStop::Clip { n, fault } => load_line(alloc, *n, *fault),
         HeadStop::NoMemory => Ok(OutLine::NoMemory),
     }
