@@ -120,7 +120,7 @@ pub fn run_alone<T: Store, V: Vault, S: Sink, O: Sink>(
 /// up. The gate is called at each point of [`Gate`]. It waits for its threads; nothing says when they get on.
 ///
 /// What the journal holds of each caller, and what `out`, `screen` and `vault` then have of it, is the same as alone, in whatever order the
-/// threads come to make their calls. A play says `pending` where the result that it asks for isn't there yet.
+/// threads come to make their calls. A play says `pending` where the result that it asks for isn't kept then.
 pub fn run<R: Threads + Wait + Sync, T: Store, V: Vault + Send, S: Sink, O: Sink, G: Gate + Sync>(
     rt: &R,
     alloc: Global,
