@@ -17,11 +17,13 @@ use Rattle.ffv1_slice.specs.declared.fault.SliceFault.TheVariants as slice_fault
 use Rattle.ffv1_slice.specs.Area.{chroma_areas}
 use Rattle.ffv1_slice.specs.Cells.{IsInGrid, areas_of}
 use Rattle.ffv1_slice.specs.Reading.{ContextsFit}
+use Rattle.ffv1_slice.specs.Room.{Room, room as room_of}
 use Rattle.ffv1_slice.specs.Slice as slices
 use Rattle.ffv1_golomb.specs.Slice as rice
+use Rattle.ffv1_frame.specs.declared.fault.DecodeFault.{DecodeFault}
 use Rattle.ffv1_frame.specs.declared.fault.DecodeFault.TheVariants.{Frame}
 use Rattle.ffv1_frame.specs.Packet.{Slice, no_slice}
-use Rattle.ffv1_frame.specs.Frame.{Gives, IsWhole, AreHeaders, HeaderGives, SamplesGive, SliceGives, DecodesTo, grid_of, no_header, slice_by, slice_fault_of}
+use Rattle.ffv1_frame.specs.Frame.{Gives, IsWhole, IsKeyFrame, AreHeaders, HeaderGives, SamplesGive, SliceGives, DecodesTo, HasRoom, grid_of, no_header, slice_by, slice_fault_of}
 
 -- ---- the contexts of table sets
 -- how many contexts a set gives, by its place
@@ -53,6 +55,16 @@ contexts-fit tables sound count n same is all =
     subst (λ (t : List (List ℤ)). ContextsFit t count) (sym same)
     (subst (λ (k : ℕ). ContextsFit sound k) (sym is)
     (λ near. all ((256 + near.l - near.tl) % 256) ((256 + near.tl - near.t) % 256) ((256 + near.t - near.tr) % 256) ((256 + near.ll - near.l) % 256) ((256 + near.tt - near.t) % 256)))
+
+-- ---- room
+pub is_ready : (p : Parameters) (shape : Layout) (room : Room) (set : ℕ) (q : Quantization) → HasRoom p shape room → set < length p.sets → q.context_count ≡ context_count_of p set
+    → ContextsFit q.tables.now q.context_count → slices.IsReady q room
+is_ready p shape room set q has lt count fits = record { few = omega (arith, count, has.contexts set lt); fits = fits }
+
+pub has_room : (p : Parameters) (shape : Layout) (contexts width : ℕ) (room : Room) → room ≡ room_of contexts width → width ≡ shape.width
+    → ((set : ℕ) → set < length p.sets → context_count_of p set ≤ contexts) → HasRoom p shape room
+has_room p shape contexts width room is wide most =
+    subst (HasRoom p shape) (sym is) (record { width = omega (arith, wide); contexts = most })
 
 -- ---- a slice by its header
 pub in_grid : (p : Parameters) (shape : Layout) (i : ℕ) (slice : Slice) (reading : Reading) (h : Header) → Suits p shape → HeaderGives p i slice reading (Ok h) → IsInGrid (grid_of p) shape h
@@ -120,6 +132,14 @@ first-headers p all found i old le = record {
         let here : k < i = omega (arith, lt, length-take-le i found le) in
         let before = old.each k (omega (arith, here, le)) in
         (before.0, subst (λ (h : Header). HeaderGives p k (slice_index_or all k no_slice) before.0 (Ok h)) (sym (get_or-take i found k no_header here)) before.1)
+
+-- the fault of a slice's header, where the slices before it have headers since all have
+pub bad_front : (p : Parameters) (shape : Layout) (packet : List ℕ) (all : List Slice) (i : ℕ) (fault : DecodeFault) → IsWhole p packet all → i < length all
+    → ((shape : Layout) (headers : List Header) → IsKeyFrame p packet all → AreHeaders p all headers → i ≡ length headers → Gives p shape packet (Err fault))
+    → Gives p shape packet (Err fault)
+bad_front p shape packet all i fault whole lt gives =
+    let le : i ≤ length whole.found = omega (arith, lt, whole.headers.all) in
+    gives shape (take i whole.found) whole.headers.frame (first-headers p all whole.found i whole.headers.headers le) (sym (length-take-le i whole.found le))
 
 pub bad_slice : (p : Parameters) (shape : Layout) (packet : List ℕ) (all : List Slice) (before image : Image) (i : ℕ) (fault : SliceFault)
     → IsWhole p packet all → i < length all → DecodesTo p shape all i before → SliceGives p shape i (slice_index_or all i no_slice) before image (Err fault)

@@ -1,5 +1,5 @@
 -- What a packet decodes to: a picture, or the first fault. RFC 9043 sections 4.4 to 4.9.
-use Rattle.std.specs.Prelude.{◌≡◌, ◌≢◌, ℕ, zero, suc, ◌+◌, ◌*◌, ◌<◌, Bool, true, false, ◌==◌, List, [], ◌∷◌, length, take, reverse, replicate, slice_index_or, All, Result, Ok, Err, ⊤}
+use Rattle.std.specs.Prelude.{◌≡◌, ◌≢◌, ℕ, zero, suc, ◌+◌, ◌*◌, ◌<◌, ◌≤◌, Bool, true, false, ◌==◌, List, [], ◌∷◌, length, take, reverse, replicate, slice_index_or, All, Result, Ok, Err, ⊤}
 use Rattle.pic_planes.specs.Shape.{Layout}
 use Rattle.pic_planes.specs.Picture.{Image, filled}
 use Rattle.ffv1_range.specs.Reading.{Reading, opened, bit_of, after_bit}
@@ -14,6 +14,7 @@ use Rattle.ffv1_slice.specs.declared.fault.SliceFault.{SliceFault}
 use Rattle.ffv1_slice.specs.declared.fault.SliceFault.TheVariants as slice_faults
 use Rattle.ffv1_slice.specs.Header as headers
 use Rattle.ffv1_slice.specs.Cells.{areas_of}
+use Rattle.ffv1_slice.specs.Room.{Room}
 use Rattle.ffv1_slice.specs.Area.{chroma_areas}
 use Rattle.ffv1_slice.specs.Slice as slices
 use Rattle.ffv1_golomb.specs.Slice as rice
@@ -151,3 +152,15 @@ Gives p shape packet (Err (Frame (Cover cell))) =
 Gives p shape packet (Err (Frame (Symbol i))) = IsBadSlice p shape packet i slice_faults.Symbol
 Gives p shape packet (Err (Frame (Overrun i))) = IsBadSlice p shape packet i slice_faults.Overrun
 Gives p shape packet (Err NoMemory) = ⊤
+
+-- ---- slice by slice
+-- There is room for the contexts of each set of tables, and for the lines of the shape.
+pub record HasRoom (p : Parameters) (shape : Layout) (room : Room) : Type 0 where
+  pub width : shape.width ≤ room.width
+  pub contexts : (set : ℕ) → set < length p.sets → context_count_of p set ≤ room.contexts
+
+-- What one slice more gives, in the picture of those before it: its samples, or the fault of the packet.
+abbrev pub StepGives : Parameters → Layout → List ℕ → List Slice → ℕ → Image → Image → Result (⊤) DecodeFault → Type 0
+StepGives p shape packet slices i before image (Ok _) = SliceGives p shape i (slice_index_or slices i no_slice) before image (Ok tt)
+StepGives p shape packet slices i before image (Err fault) =
+    IsWhole p packet slices → DecodesTo p shape slices i before → Gives p shape packet (Err fault)

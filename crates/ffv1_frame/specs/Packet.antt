@@ -1,5 +1,5 @@
 -- A packet: slices one after the other, each its content and its footer. RFC 9043 sections 4.5 and 4.9.
-use Rattle.std.specs.Prelude.{◌≡◌, ℕ, ◌≤◌, Bool, true, false, List, [], ◌∷◌, ◌++◌, length, slice_range}
+use Rattle.std.specs.Prelude.{◌≡◌, ℕ, ◌<◌, ◌≤◌, ◌^◌, Bool, true, false, List, [], ◌∷◌, ◌++◌, length, slice_range, All}
 use Rattle.byteorder.specs.Endian.{big_number}
 use Rattle.tl_base.specs.Parity.{parity}
 use Rattle.ffv1_frame.specs.declared.chain.Span.{Span}
@@ -35,6 +35,12 @@ pub record IsSpan (packet : List ℕ) (span : Span) : Type 0 where
   pub content : span.from ≤ span.footer
   pub footer : span.footer ≤ span.end
   pub within : span.end ≤ length packet
+
+-- These are slices of the packet, which isn't too long to be decoded.
+pub record AreFound (packet : List ℕ) (spans : List Span) : Type 0 where
+  pub each : All (IsSpan packet) spans
+  pub few : length spans < 2 ^ 32
+  pub short : length packet ≤ 2 ^ 33
 
 -- The parity of all its bytes is 0. RFC 9043 section 4.9.3.
 abbrev pub HasParity : Slice → Type 0

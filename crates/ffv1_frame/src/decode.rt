@@ -1,7 +1,7 @@
 //! Decoding a packet to its picture. RFC 9043 sections 4.4 to 4.9.
-ghost use Rattle.std.specs.Prelude.{◌≡◌, ◌≢◌, ◌<◌, ◌≤◌, ◌*◌, ◌^◌, [], All, length, map, reverse};
+ghost use Rattle.std.specs.Prelude.{◌≡◌, ◌≢◌, ◌≤◌, ◌*◌, ◌^◌, [], All, length, map, reverse};
 ghost use Rattle.ffv1_record.specs.Suits.{Suits};
-ghost use Rattle.ffv1_frame.specs.Packet.{EndsWith, IsSpan, slice_at};
+ghost use Rattle.ffv1_frame.specs.Packet.{EndsWith, IsSpan, AreFound, slice_at};
 ghost use Rattle.ffv1_frame.specs.Frame.{Gives, IsWhole, slice_fault_of};
 
 use crate::chain::Span;
@@ -62,9 +62,7 @@ fn decode_slices(
 ) -> Result<Picture, DecodeFault>
     requires whole { IsWhole record.now packet.now (map (slice_at packet.now) spans.now) }
     requires suits { Suits record.now shape }
-    requires spans { All (IsSpan packet.now) spans.now }
-    requires few { length spans.now < 2 ^ 32 }
-    requires packet { length packet.now ≤ 2 ^ 33 }
+    requires found { AreFound packet.now spans.now }
     ensures { Gives record.now shape packet.now result }
 {
     match record.coder() {

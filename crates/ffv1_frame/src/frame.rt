@@ -4,6 +4,7 @@ ghost use Rattle.pic_planes.specs.Shape.{Layout};
 ghost use Rattle.ffv1_range.specs.Reading.{Reading, opened, bit_of};
 ghost use Rattle.ffv1_range.specs.Transition.{AllKept};
 ghost use Rattle.ffv1_record.specs.Parameters.{Parameters};
+ghost use Rattle.ffv1_slice.specs.declared.header.Header.{Header};
 ghost use Rattle.ffv1_frame.specs.Cover.{AreCovered, IsUncovered};
 ghost use Rattle.ffv1_frame.specs.Packet.{EndsWith, IsSpan, slice_at, no_slice};
 ghost use Rattle.ffv1_frame.specs.Frame.{Gives, HaveParities, AreSlices, IsKeyFrame, HaveHeaders, AreHeaders, HeaderGives, keyframe, reader_at, grid_of, header_fault_of};
@@ -101,7 +102,7 @@ pub(crate) fn grid_of(record: &Record) -> Grid
 }
 
 // What the header of a slice gives, and a reader behind it.
-pub(crate) fn open_slice<'a>(
+fn open_slice<'a>(
     record: &'a Record,
     packet: &'a [u8],
     spans: &[Span],
@@ -117,6 +118,32 @@ pub(crate) fn open_slice<'a>(
     let mut reader = reader_at_header(content, record.transition(), i == 0);
     let header = read_header(&mut reader, grid);
     (header, reader)
+}
+
+// The header of a slice, and a reader behind it.
+pub(crate) fn header_at<'a>(
+    record: &'a Record,
+    packet: &'a [u8],
+    spans: &[Span],
+    i: usize,
+) -> Result<(Header, RangeReader<'a>), DecodeFault>
+    requires spans { All (IsSpan packet.now) spans.now }
+    requires few { length spans.now < 2 ^ 32 }
+    requires within { i < length spans.now }
+    ensures ok { IfOk result (λ found. HeaderGives record.now i (slice_index_or (map (slice_at packet.now) spans.now) i no_slice) found.1
+        (Ok found.0)) }
+    ensures fresh { IfOk result (λ found. AllKept found.1.table (replicate 32 128)) }
+    ensures table { IfOk result (λ found. found.1.table ≡ record.now.transition) }
+    ensures err { IfErr result (λ fault. (shape : Layout) (headers : List Header)
+        → IsKeyFrame record.now packet.now (map (slice_at packet.now) spans.now)
+        → AreHeaders record.now (map (slice_at packet.now) spans.now) headers → i ≡ length headers
+        → Gives record.now shape packet.now (Err fault)) }
+{
+    let (header, reader) = open_slice(record, packet, spans, i);
+    match header {
+        Ok(header) => Ok((header, reader)),
+        Err(fault) => Err(DecodeFault::Frame(header_fault(fault, i as u32))),
+    }
 }
 
 // The headers of all slices.
@@ -135,16 +162,13 @@ fn headers_of(
 {
     let mut headers = Vec::new(alloc);
     for i in 0..spans.len() {
-        let (header, _reader) = open_slice(record, packet, spans, i);
-        match header {
-            Ok(header) => headers.push(header)?,
-            Err(fault) => return Err(DecodeFault::Frame(header_fault(fault, i as u32))),
-        }
+        let (header, _reader) = header_at(record, packet, spans, i)?;
+        headers.push(header)?;
     }
     Ok(headers)
 }
 
-pub(crate) fn header_fault(fault: HeaderFault, slice: u32) -> FrameFault
+fn header_fault(fault: HeaderFault, slice: u32) -> FrameFault
     ensures { result ≡ header_fault_of fault slice }
 {
     match fault {

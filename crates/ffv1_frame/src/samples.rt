@@ -5,14 +5,15 @@ ghost use Rattle.ffv1_record.specs.Parameters.{tables_of, context_count_of};
 ghost use Rattle.ffv1_record.specs.Tables.{set_of};
 ghost use Rattle.ffv1_slice.specs.Cells.{IsInGrid, areas_of};
 ghost use Rattle.ffv1_slice.specs.Reading.{ContextsFit};
+ghost use Rattle.ffv1_slice.specs.Room.{Room};
 ghost use Rattle.ffv1_slice.specs.Slice as slices;
-ghost use Rattle.ffv1_frame.specs.Frame.{grid_of, slice_by, SamplesGive};
+ghost use Rattle.ffv1_frame.specs.Frame.{grid_of, slice_by, SamplesGive, HasRoom};
 
 use crate::frame::grid_of;
 use ffv1_golomb::{RiceScratch, decode_rice_slice};
 use ffv1_range::RangeReader;
 use ffv1_record::{Record, TableSet, Tables};
-use ffv1_slice::{Header, Quantization, Scratch, SliceFault, decode_slice};
+use ffv1_slice::{Areas, Header, Quantization, Scratch, SliceFault, decode_slice};
 use pic_planes::{Picture, Shape};
 
 /// The entries of the tables of a set.
@@ -81,6 +82,31 @@ pub(crate) fn quantization<'a>(record: &Record, set: u32, tables: &'a Tables) ->
     }
 }
 
+// The tables of a slice's header, to code by, and the areas of its cells.
+fn parts<'a>(
+    record: &Record,
+    header: Header,
+    shape: Shape,
+    luma: &'a Tables,
+    chroma: &'a Tables,
+) -> (Quantization<'a>, Quantization<'a>, Areas)
+    requires grid { IsInGrid (grid_of record.now) shape header }
+    requires luma { header.luma_set < length record.now.sets }
+    requires chroma { header.chroma_set < length record.now.sets }
+    requires luma_tables { luma.now ≡ tables_of record.now header.luma_set }
+    requires chroma_tables { chroma.now ≡ tables_of record.now header.chroma_set }
+    ensures slice { slices.slice_of result.0 result.1 result.2
+        ≡ slice_by record.now header (areas_of (grid_of record.now) shape header) }
+    ensures luma { (room : Room) → HasRoom record.now shape room → slices.IsReady result.0 room }
+    ensures chroma { (room : Room) → HasRoom record.now shape room → slices.IsReady result.1 room }
+    ensures areas { (room : Room) → HasRoom record.now shape room → slices.CanHold shape room result.2 }
+{
+    let luma = quantization(record, header.luma_set, luma);
+    let chroma = quantization(record, header.chroma_set, chroma);
+    let areas = header.areas(grid_of(record), shape);
+    (luma, chroma, areas)
+}
+
 /// Reads the samples of a slice into a picture by the range coder, behind its header.
 pub(crate) fn decode_range_samples(
     record: &Record,
@@ -96,8 +122,7 @@ pub(crate) fn decode_range_samples(
     requires luma { header.luma_set < length record.now.sets }
     requires chroma { header.chroma_set < length record.now.sets }
     requires shape { picture.old.shape ≡ shape }
-    requires width { shape.width ≤ scratch.old.width }
-    requires contexts { (set : ℕ) → set < length record.now.sets → context_count_of record.now set ≤ scratch.old.contexts }
+    requires room { HasRoom record.now shape scratch.old }
     requires fresh { AllKept reader.table (replicate 32 128) }
     requires content { length content.now < 2 ^ 60 }
     ensures gives { SamplesGive record.now.coder_type (slice_by record.now header (areas_of (grid_of record.now) shape header)) content.now
@@ -107,9 +132,7 @@ pub(crate) fn decode_range_samples(
 {
     let luma_tables = tables_of(record, header.luma_set);
     let chroma_tables = tables_of(record, header.chroma_set);
-    let luma = quantization(record, header.luma_set, &luma_tables);
-    let chroma = quantization(record, header.chroma_set, &chroma_tables);
-    let areas = header.areas(grid_of(record), shape);
+    let (luma, chroma, areas) = parts(record, header, shape, &luma_tables, &chroma_tables);
     let bytes = content.len() as u64;
     decode_slice(reader, bytes, luma, chroma, areas, scratch, picture)
 }
@@ -129,8 +152,7 @@ pub(crate) fn decode_rice_samples(
     requires luma { header.luma_set < length record.now.sets }
     requires chroma { header.chroma_set < length record.now.sets }
     requires shape { picture.old.shape ≡ shape }
-    requires width { shape.width ≤ scratch.old.width }
-    requires contexts { (set : ℕ) → set < length record.now.sets → context_count_of record.now set ≤ scratch.old.contexts }
+    requires room { HasRoom record.now shape scratch.old }
     requires kept { IsKept reader.table 129 }
     requires content { length content.now < 2 ^ 60 }
     ensures gives { SamplesGive record.now.coder_type (slice_by record.now header (areas_of (grid_of record.now) shape header)) content.now
@@ -140,8 +162,6 @@ pub(crate) fn decode_rice_samples(
 {
     let luma_tables = tables_of(record, header.luma_set);
     let chroma_tables = tables_of(record, header.chroma_set);
-    let luma = quantization(record, header.luma_set, &luma_tables);
-    let chroma = quantization(record, header.chroma_set, &chroma_tables);
-    let areas = header.areas(grid_of(record), shape);
+    let (luma, chroma, areas) = parts(record, header, shape, &luma_tables, &chroma_tables);
     decode_rice_slice(reader, content, luma, chroma, areas, scratch, picture)
 }

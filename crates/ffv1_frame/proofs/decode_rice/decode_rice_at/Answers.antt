@@ -1,41 +1,47 @@
-use Rattle.std.proofs.Common.{ℕ, ◌<◌, ◌≤◌, List, length, map, take, sym, subst, arith, Result, Ok, Err}
+use Rattle.std.proofs.Common.{ℕ, ◌<◌, List, length, map, sym, subst, arith, Ok, Err}
 use Rattle.std.specs.Prelude.{slice_index_or}
-use Rattle.std.proofs.lemmas.List.{length-map, length-take-le}
-use Rattle.ffv1_slice.specs.declared.header.Header.{Header}
-use Rattle.ffv1_slice.specs.declared.fault.HeaderFault.{HeaderFault}
-use Rattle.ffv1_frame.specs.Packet.{Slice, slice_at, no_slice}
-use Rattle.ffv1_frame.specs.Frame.{HeaderGives}
+use Rattle.std.proofs.lemmas.Result.{err_from_is_err_and}
+use Rattle.std.proofs.lemmas.List.{length-map}
 use Rattle.ffv1_range.specs.Transition.{IsKept}
-use Rattle.ffv1_frame.proofs.Frames.{bad_header, keeps-sentinel}
-use Rattle.ffv1_frame.proofs.SliceSteps.{first-headers, slice-gives, bad_slice}
+use Rattle.ffv1_frame.specs.Packet.{Slice, slice_at, no_slice}
+use Rattle.ffv1_frame.proofs.Frames.{keeps-sentinel}
+use Rattle.ffv1_frame.proofs.SliceSteps.{slice-gives, bad_front, bad_slice}
 use Rattle.ffv1_frame.proofs.decode_rice.decode_rice_at.Goals as goal
 
-pub returns-in-Err-clause-err : goal.returns-in-Err-clause-err
-returns-in-Err-clause-err c = λ whole decodes.
+pub header_at-requires-clause-spans : goal.header_at-requires-clause-spans
+header_at-requires-clause-spans c = c.requires.found.each
+
+pub header_at-requires-clause-few : goal.header_at-requires-clause-few
+header_at-requires-clause-few c = c.requires.found.few
+
+pub content-bytes-requires : goal.content-bytes-requires
+content-bytes-requires c = c.requires.found.each
+
+pub decode_rice_samples-requires-clause-content : goal.decode_rice_samples-requires-clause-content
+decode_rice_samples-requires-clause-content c = omega (arith, c.content-bytes.ensures.few, c.requires.found.short)
+
+pub returns-in_err-header-clause-gives : goal.returns-in_err-header-clause-gives
+returns-in_err-header-clause-gives c =
+    let p = err_from_is_err_and c.from_residual.result c.from_residual.ensures.1 in
     let slices : List Slice = map (slice_at c.args.packet.now) c.args.spans.now in
     let lt : c.args.i < length slices = omega (arith, length-map c.args.spans.now (slice_at c.args.packet.now), c.requires.within) in
-    let le : c.args.i ≤ length whole.found = omega (arith, lt, whole.headers.all) in
-    rw c.header_fault.ensures (bad_header c.args.record.now c.args.shape c.args.packet.now slices (take c.args.i whole.found) c.args.i c.in-Err.fault c.open_slice-header.result.1
-    whole.headers.frame (first-headers c.args.record.now slices whole.found c.args.i whole.headers.headers le) (sym (length-take-le c.args.i whole.found le)) lt
-    (subst (λ (r : Result Header HeaderFault). HeaderGives c.args.record.now c.args.i (slice_index_or slices c.args.i no_slice) c.open_slice-header.result.1 r) c.in-Err.is c.open_slice-header.ensures.gives))
+    rw (p.1, p.2) (λ whole decodes. bad_front c.args.record.now c.args.shape c.args.packet.now slices c.args.i _ whole lt c.in_err-header.ensures.err)
 
-pub returns-in-Ok-decode_rice_samples-clause-ok : goal.returns-in-Ok-decode_rice_samples-clause-ok
-returns-in-Ok-decode_rice_samples-clause-ok c =
+pub returns-in-Ok-clause-gives : goal.returns-in-Ok-clause-gives
+returns-in-Ok-clause-gives c =
     let slice : Slice = slice_index_or (map (slice_at c.args.packet.now) c.args.spans.now) c.args.i no_slice in
-    slice-gives c.args.record.now c.args.shape c.args.i slice c.in-Ok.header c.open_slice-header.result.1 c.content-bytes.result.now c.args.picture.now c.decode_rice_samples.new.picture (Ok tt)
-    (subst (λ (r : Result Header HeaderFault). HeaderGives c.args.record.now c.args.i slice c.open_slice-header.result.1 r) c.in-Ok.is c.open_slice-header.ensures.gives)
-    c.content-bytes.ensures.content c.in-Ok-decode_rice_samples.ensures.gives
+    slice-gives c.args.record.now c.args.shape c.args.i slice c.in_ok-header.header c.in_ok-header.reader c.content-bytes.result.now c.args.picture.now c.decode_rice_samples.new.picture (Ok tt)
+    c.in_ok-header.ensures.ok c.content-bytes.ensures.content c.in-Ok.ensures.gives
 
-pub returns-in-Err-decode_rice_samples-clause-err : goal.returns-in-Err-decode_rice_samples-clause-err
-returns-in-Err-decode_rice_samples-clause-err c = λ whole decodes.
+pub returns-in-Err-clause-gives : goal.returns-in-Err-clause-gives
+returns-in-Err-clause-gives c = λ whole decodes.
     let slices : List Slice = map (slice_at c.args.packet.now) c.args.spans.now in
     let slice : Slice = slice_index_or slices c.args.i no_slice in
     let lt : c.args.i < length slices = omega (arith, length-map c.args.spans.now (slice_at c.args.packet.now), c.requires.within) in
-    rw c.slice_fault.ensures (bad_slice c.args.record.now c.args.shape c.args.packet.now slices c.args.picture.now c.decode_rice_samples.new.picture c.args.i c.in-Err-decode_rice_samples.fault whole lt decodes
-    (slice-gives c.args.record.now c.args.shape c.args.i slice c.in-Ok.header c.open_slice-header.result.1 c.content-bytes.result.now c.args.picture.now c.decode_rice_samples.new.picture (Err c.in-Err-decode_rice_samples.fault)
-    (subst (λ (r : Result Header HeaderFault). HeaderGives c.args.record.now c.args.i slice c.open_slice-header.result.1 r) c.in-Ok.is c.open_slice-header.ensures.gives)
-    c.content-bytes.ensures.content c.in-Err-decode_rice_samples.ensures.gives))
+    rw c.slice_fault.ensures (bad_slice c.args.record.now c.args.shape c.args.packet.now slices c.args.picture.now c.decode_rice_samples.new.picture c.args.i c.in-Err.fault whole lt decodes
+    (slice-gives c.args.record.now c.args.shape c.args.i slice c.in_ok-header.header c.in_ok-header.reader c.content-bytes.result.now c.args.picture.now c.decode_rice_samples.new.picture (Err c.in-Err.fault)
+    c.in_ok-header.ensures.ok c.content-bytes.ensures.content c.in-Err.ensures.gives))
 
 pub decode_rice_samples-requires-clause-kept : goal.decode_rice_samples-requires-clause-kept
 decode_rice_samples-requires-clause-kept c =
-    subst (λ (t : List ℕ). IsKept t 129) (sym c.open_slice-header.ensures.table) (keeps-sentinel c.args.record.now c.lawful.ensures.fields c.requires.coder)
+    subst (λ (t : List ℕ). IsKept t 129) (sym c.in_ok-header.ensures.table) (keeps-sentinel c.args.record.now c.lawful.ensures.fields c.requires.coder)

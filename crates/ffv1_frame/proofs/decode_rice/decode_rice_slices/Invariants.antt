@@ -1,13 +1,11 @@
-use Rattle.std.proofs.Common.{◌≡◌, ℕ, ◌<◌, ◌≤◌, length, map}
-use Rattle.ffv1_record.specs.Parameters.{context_count_of}
+use Rattle.std.proofs.Common.{◌≡◌, map}
 use Rattle.ffv1_frame.specs.Packet.{slice_at}
-use Rattle.ffv1_frame.specs.Frame.{DecodesTo}
+use Rattle.ffv1_frame.specs.Frame.{DecodesTo, HasRoom}
 use Rattle.ffv1_frame.proofs.decode_rice.decode_rice_slices.Given as goal
 
 abbrev pub invariant-loop-i : goal.invariant-loop-i
 invariant-loop-i l = record {
   decodes : DecodesTo l.record l.shape (map (slice_at l.packet) l.spans) l.i l.picture;
   shape : l.picture.shape ≡ l.shape;
-  width : l.shape.width ≤ l.scratch.width;
-  contexts : (set : ℕ) → set < length l.record.sets → context_count_of l.record set ≤ l.scratch.contexts;
+  room : HasRoom l.record l.shape l.scratch;
 }
