@@ -64,7 +64,7 @@ fn each_line_of_words(rt: HostRuntime) -> Result<(), Fail> {
             status,
             lines,
             exported: None,
-            shown: 0,
+            shown: &[],
         };
         expect_run(&rt, rt.alloc(), words, ("", NONE_FAILS), ended)?;
     }

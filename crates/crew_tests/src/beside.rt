@@ -18,7 +18,7 @@ const ENDED: Ended = Ended {
     status: 0,
     lines: "ok 3\nwanted 3\nasked 1\npending 0\npending 1\nexport 1 done 3\n",
     exported: WHOLE,
-    shown: 0,
+    shown: &[],
 };
 
 const WORDS: [&str; 3] = ["s", "--workers", "2"];

@@ -7,7 +7,7 @@ use test_runs::{COURSES, LISTS, NONE_FAILS, Outside, PLAYED, is_whole};
 #[test]
 fn each_course(rt: HostRuntime) -> Result<(), Fail> {
     for (script, ended) in COURSES {
-        expect_run(&rt, rt.alloc(), script, NONE_FAILS, ended)?;
+        expect_run(&rt, rt.alloc(), &["s"], (script, NONE_FAILS), ended)?;
     }
     Ok(())
 }
@@ -15,7 +15,7 @@ fn each_course(rt: HostRuntime) -> Result<(), Fail> {
 #[test]
 fn each_played_script(rt: HostRuntime) -> Result<(), Fail> {
     for (script, ended) in PLAYED {
-        expect_run(&rt, rt.alloc(), script, NONE_FAILS, ended)?;
+        expect_run(&rt, rt.alloc(), &["s"], (script, NONE_FAILS), ended)?;
     }
     Ok(())
 }
@@ -23,19 +23,21 @@ fn each_played_script(rt: HostRuntime) -> Result<(), Fail> {
 #[test]
 fn each_list(rt: HostRuntime) -> Result<(), Fail> {
     for (script, ended) in LISTS {
-        expect_run(&rt, rt.alloc(), script, NONE_FAILS, ended)?;
+        expect_run(&rt, rt.alloc(), &["s"], (script, NONE_FAILS), ended)?;
     }
     Ok(())
 }
 
-/// The exported file of three packets.
+/// The exported file of three packets, also where two of the frames are taken out after the ask.
 #[test]
 fn exported_bytes(rt: HostRuntime) -> Result<(), Fail> {
     let alloc = rt.alloc();
-    let mut outside = Outside::start(alloc, COURSES[0].0, NONE_FAILS)?;
-    run_over(alloc, &["s"], &mut outside)?;
-    let file = outside.vault.file("o.mkv").ok_or("the file is there")?;
-    assert!(rt; is_whole(file));
+    for (script, _) in [COURSES[0], COURSES[1]] {
+        let mut outside = Outside::start(alloc, script, NONE_FAILS)?;
+        run_over(alloc, &["s"], &mut outside)?;
+        let file = outside.vault.file("o.mkv").ok_or("the file is there")?;
+        assert!(rt; is_whole(file), "{script}");
+    }
     Ok(())
 }
 

@@ -7,7 +7,7 @@ use test_runs::FAILING;
 #[test]
 fn each_fault(rt: HostRuntime) -> Result<(), Fail> {
     for (script, failing, ended) in FAILING {
-        expect_run(&rt, rt.alloc(), script, failing, ended)?;
+        expect_run(&rt, rt.alloc(), &["s"], (script, failing), ended)?;
     }
     Ok(())
 }

@@ -27,16 +27,17 @@ pub(crate) fn run_over(
     Ok(run_alone(alloc, &words, store, vault, screen, out))
 }
 
-/// Runs a script, and compares.
+/// Runs a script by these words, where these calls fail, and compares.
 pub(crate) fn expect_run(
     rt: &impl Abort,
     alloc: Global,
-    script: &str,
-    failing: Failing,
+    words: &[&str],
+    outside: (&str, Failing),
     ended: Ended,
 ) -> Result<(), Fail> {
+    let (script, failing) = outside;
     let mut outside = Outside::start(alloc, script, failing)?;
-    let outcome = run_over(alloc, &["s"], &mut outside)?;
+    let outcome = run_over(alloc, words, &mut outside)?;
     assert_eq!(rt; outside.differs(outcome.status, ended), None, "{script}");
     Ok(())
 }

@@ -37,6 +37,14 @@ pub const WHOLE: Option<usize> = Some(261 + RECORD_LEN);
 /// The packet of each of its frames.
 pub const PACKET: [u8; 5] = [0xFF, 0xFF, 0x00, 0x00, 0x02];
 
+/// The packet of four samples 255, as a model in Python wrote it.
+const WHITE: [u8; 5] = [0xFE, 0x35, 0x00, 0x00, 0x02];
+
+/// Where the first block begins, and where its packet does.
+const BLOCK_AT: usize = 84;
+
+const PACKET_AT: usize = 90;
+
 /// The clip, with another last byte: the length of the third packet's one slice.
 pub fn grey(alloc: Global, last: u8) -> Result<Vec<u8>, AllocError>
     ensures { IfOk result (λ bytes. length bytes.items ≡ 117) }
@@ -44,4 +52,24 @@ pub fn grey(alloc: Global, last: u8) -> Result<Vec<u8>, AllocError>
     let mut bytes = Vec::from_slice(alloc, &GREY[..116])?;
     bytes.push(last)?;
     Ok(bytes)
+}
+
+/// A clip like it, of so many frames with this packet, all at the time 0.
+fn alike(alloc: Global, packet: &[u8], frames: u32) -> Result<Vec<u8>, AllocError> {
+    let mut bytes = Vec::from_slice(alloc, &GREY[..BLOCK_AT])?;
+    for _ in 0..frames {
+        bytes.extend_from_slice(&GREY[BLOCK_AT..PACKET_AT])?;
+        bytes.extend_from_slice(packet)?;
+    }
+    Ok(bytes)
+}
+
+/// A clip like it, of 150 frames, each of four samples 0.
+pub(crate) fn zeros(alloc: Global) -> Result<Vec<u8>, AllocError> {
+    alike(alloc, &PACKET, 150)
+}
+
+/// A clip like it, of 200 frames, each of four samples 255.
+pub(crate) fn whites(alloc: Global) -> Result<Vec<u8>, AllocError> {
+    alike(alloc, &WHITE, 200)
 }

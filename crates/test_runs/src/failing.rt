@@ -10,24 +10,27 @@ const SHOWN: &str =
 
 /// Scripts, which calls fail, and how their runs end, whether main plays them alone or beside others.
 #[rattlefmt::skip]
-pub const FAILING: [(&str, Failing, Ended); 11] = [
+pub const FAILING: [(&str, Failing, Ended); 12] = [
     // The store, at the script and at the clip.
-    (THREE, Failing { store: &[1], ..NONE_FAILS }, Ended { status: 4, lines: "store s Failed\n", exported: None, shown: 0 }),
-    (THREE, Failing { store: &[2], ..NONE_FAILS }, Ended { status: 4, lines: "store a.mkv Failed\n", exported: None, shown: 0 }),
+    (THREE, Failing { store: &[1], ..NONE_FAILS }, Ended { status: 4, lines: "store s Failed\n", exported: None, shown: &[] }),
+    (THREE, Failing { store: &[2], ..NONE_FAILS }, Ended { status: 4, lines: "store a.mkv Failed\n", exported: None, shown: &[] }),
+    // Where two clips have one name, none is fetched.
+    ("rate 25\nclip A a.mkv\nclip A b.mkv\nformat as A\ninsert 0 A 0 3\nexport o.mkv\n", Failing { store: &[2], ..NONE_FAILS },
+        Ended { status: 3, lines: "fault line 3 SameName\n", exported: None, shown: &[] }),
     // The vault, at the begin, at the first piece, half of which is there, and at the end, when the file is whole.
-    (THREE, Failing { vault: &[1], ..NONE_FAILS }, Ended { status: 4, lines: "ok 3\nasked 1\nexport 1 sink\n", exported: None, shown: 0 }),
+    (THREE, Failing { vault: &[1], ..NONE_FAILS }, Ended { status: 4, lines: "ok 3\nasked 1\nexport 1 sink\n", exported: None, shown: &[] }),
     (THREE, Failing { vault: &[2], ..NONE_FAILS },
-        Ended { status: 4, lines: "ok 3\nasked 1\nexport 1 sink\n", exported: Some(52 / 2), shown: 0 }),
-    (THREE, Failing { vault: &[7], ..NONE_FAILS }, Ended { status: 4, lines: "ok 3\nasked 1\nexport 1 sink\n", exported: WHOLE, shown: 0 }),
+        Ended { status: 4, lines: "ok 3\nasked 1\nexport 1 sink\n", exported: Some(52 / 2), shown: &[] }),
+    (THREE, Failing { vault: &[7], ..NONE_FAILS }, Ended { status: 4, lines: "ok 3\nasked 1\nexport 1 sink\n", exported: WHOLE, shown: &[] }),
     // `out`, of whose line half is there. What was asked for is exported all the same, and nothing more is put.
-    (THREE, Failing { out: &[1], ..NONE_FAILS }, Ended { status: 4, lines: "ok", exported: None, shown: 0 }),
-    (THREE, Failing { out: &[2], ..NONE_FAILS }, Ended { status: 4, lines: "ok 3\naske", exported: WHOLE, shown: 0 }),
-    (THREE, Failing { out: &[3], ..NONE_FAILS }, Ended { status: 4, lines: "ok 3\nasked 1\nexport 1", exported: WHOLE, shown: 0 }),
+    (THREE, Failing { out: &[1], ..NONE_FAILS }, Ended { status: 4, lines: "ok", exported: None, shown: &[] }),
+    (THREE, Failing { out: &[2], ..NONE_FAILS }, Ended { status: 4, lines: "ok 3\naske", exported: WHOLE, shown: &[] }),
+    (THREE, Failing { out: &[3], ..NONE_FAILS }, Ended { status: 4, lines: "ok 3\nasked 1\nexport 1", exported: WHOLE, shown: &[] }),
     // The screen, of whose row half is there. It stops the session, and what was asked for is exported.
     (SHOWN, Failing { screen: &[1], ..NONE_FAILS },
-        Ended { status: 4, lines: "ok 3\nasked 1\nframe 1\nscreen failed\nexport 1 done 3\n", exported: WHOLE, shown: 1 }),
-    (SHOWN, Failing { out: &[3], ..NONE_FAILS }, Ended { status: 4, lines: "ok 3\nasked 1\nfram", exported: WHOLE, shown: 0 }),
+        Ended { status: 4, lines: "ok 3\nasked 1\nframe 1\nscreen failed\nexport 1 done 3\n", exported: WHOLE, shown: &[0] }),
+    (SHOWN, Failing { out: &[3], ..NONE_FAILS }, Ended { status: 4, lines: "ok 3\nasked 1\nfram", exported: WHOLE, shown: &[] }),
     // A damaged frame and a sink that fails: the sink comes first.
     ("rate 25\nclip A b.mkv\nformat as A\ninsert 0 A 0 3\nexport o.mkv\nexport p.mkv\n", Failing { vault: &[1], ..NONE_FAILS },
-        Ended { status: 4, lines: "ok 3\nasked 1\nasked 2\nexport 1 sink\nexport 2 fault 2 A 2 Chain\n", exported: None, shown: 0 }),
+        Ended { status: 4, lines: "ok 3\nasked 1\nasked 2\nexport 1 sink\nexport 2 fault 2 A 2 Chain\n", exported: None, shown: &[] }),
 ];

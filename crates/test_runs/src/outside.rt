@@ -3,7 +3,7 @@
 ghost use Rattle.std.specs.Prelude.{◌≡◌, IfOk, IsSome, IsTrue, None, length};
 ghost use Rattle.std.specs.List.{concat};
 
-use crate::clips::grey;
+use crate::clips::{grey, whites, zeros};
 use crate::made::summed;
 use std::alloc::{AllocError, Global};
 use tl_ports::{MemSink, MemStore, MemVault, Sink, Vault};
@@ -25,13 +25,13 @@ pub const NONE_FAILS: Failing = Failing {
     out: &[],
 };
 
-/// How a run is to end: its status, its lines, how many bytes `o.mkv` has if it is there, and how many samples the screen got.
+/// How a run is to end: its status, its lines, how many bytes `o.mkv` has if it is there, and the samples that the screen got.
 #[derive(Clone, Copy)]
 pub struct Ended {
     pub status: u8,
     pub lines: &'static str,
     pub exported: Option<usize>,
-    pub shown: usize,
+    pub shown: &'static [u8],
 }
 
 /// A list of a cut to the clip `A`, three frames of black, and its first two frames again.
@@ -42,6 +42,13 @@ const CUT: &str = "TITLE: CUT\nFCM: NON-DROP FRAME\n\
 /// A list whose second line is a speed change.
 const BAD: &str = "TITLE: BAD\nM2   A       025.0                00:00:00:00\n";
 
+/// A list of 100 frames, and of a dissolve over 25 frames into 125.
+const REEL: &str = "TITLE: REEL ONE\nFCM: NON-DROP FRAME\n\
+    001  AX       V     C        00:00:00:00 00:00:04:00 01:00:00:00 01:00:04:00\n* FROM CLIP NAME: a.mov\n\
+    002  AX       V     C        00:00:04:00 00:00:04:00 01:00:04:00 01:00:04:00\n\
+    002  AX       V     D    025 00:00:01:00 00:00:06:00 01:00:04:00 01:00:09:00\n\
+    * EFFECT NAME: CROSS DISSOLVE\n* FROM CLIP NAME: a.mov\n* TO CLIP NAME: b.mov\n";
+
 /// Objects in memory.
 #[derive(Drop)]
 pub struct Outside {
@@ -51,7 +58,16 @@ pub struct Outside {
     pub out: MemSink,
 }
 
-/// A store with a script `s`, the clip `a.mkv`, the clip `b.mkv` with a damaged third packet, and the edit lists `cut.edl` and `bad.edl`.
+/// Puts the edit list `reel.edl` and its clips: `zeros.mkv`, whose samples are all 0, and `whites.mkv`, whose samples are all 255.
+fn add_reel(alloc: Global, store: &mut MemStore) -> Result<(), AllocError> {
+    store.add("reel.edl", Vec::from_slice(alloc, REEL.as_bytes())?)?;
+    store.add("zeros.mkv", zeros(alloc)?)?;
+    store.add("whites.mkv", whites(alloc)?)?;
+    Ok(())
+}
+
+/// A store with a script `s`, the clip `a.mkv`, the clip `b.mkv` with a damaged third packet, the edit lists `cut.edl` and `bad.edl`, and
+/// `reel.edl` with its clips.
 fn store_of(alloc: Global, script: &str, fail: &[u64]) -> Result<MemStore, AllocError> {
     let mut store = MemStore::start(alloc, Vec::from_slice(alloc, fail)?);
     store.add("s", Vec::from_slice(alloc, script.as_bytes())?)?;
@@ -59,12 +75,13 @@ fn store_of(alloc: Global, script: &str, fail: &[u64]) -> Result<MemStore, Alloc
     store.add("b.mkv", grey(alloc, 0x03)?)?;
     store.add("cut.edl", Vec::from_slice(alloc, CUT.as_bytes())?)?;
     store.add("bad.edl", Vec::from_slice(alloc, BAD.as_bytes())?)?;
+    add_reel(alloc, &mut store)?;
     Ok(store)
 }
 
 impl Outside {
-    /// A store with a script `s`, the clip `a.mkv`, the clip `b.mkv` with a damaged third packet, and the edit lists `cut.edl` and
-    /// `bad.edl`; a vault without files; and a screen and `out` without bytes. Calls of these numbers fail.
+    /// A store with a script `s`, the clip `a.mkv`, the clip `b.mkv` with a damaged third packet, the edit lists `cut.edl` and `bad.edl`,
+    /// and `reel.edl` with its clips; a vault without files; and a screen and `out` without bytes. Calls of these numbers fail.
     pub fn start(alloc: Global, script: &str, failing: Failing) -> Result<Outside, AllocError>
         ensures idle { IfOk result (λ outside. (⟦<MemVault as Vault>⟧.seen outside.vault).begun ≡ None) }
     {
@@ -87,7 +104,7 @@ impl Outside {
     pub fn differs(&self, status: u8, ended: Ended) -> Option<&'static str>
         ensures status { result ≡ None → status ≡ ended.status }
         ensures lines { result ≡ None → concat (⟦<MemSink as Sink>⟧.seen self.now.out).pieces ≡ ended.lines.now }
-        ensures shown { result ≡ None → length (concat (⟦<MemSink as Sink>⟧.seen self.now.screen).pieces) ≡ ended.shown }
+        ensures shown { result ≡ None → concat (⟦<MemSink as Sink>⟧.seen self.now.screen).pieces ≡ ended.shown.now }
     {
         if status != ended.status {
             return Some("the status");
@@ -98,7 +115,7 @@ impl Outside {
         if self.vault.file("o.mkv").map(|file| file.len()) != ended.exported {
             return Some("the export");
         }
-        if self.screen.bytes().len() != ended.shown {
+        if self.screen.bytes() != ended.shown {
             return Some("the screen");
         }
         None
