@@ -1,9 +1,11 @@
-//! Worked packets.
+//! Worked packets, and sizes and grids at their limits.
 
+use crate::planes::has_row;
 use ffv1_frame::{DecodeFault, decode_frame, encode_frame};
 use ffv1_record::{Coder, Record, default_record};
-use pic_planes::{Chroma, Picture, Shape};
+use pic_planes::{Chroma, Picture, Shape, reaches_ends};
 use std::alloc::{AllocError, Global};
+use std::process::Abort;
 use std::test::Fail;
 use tl_model::{EncodeFault, FrameFault};
 
@@ -26,7 +28,7 @@ fn decoded(
     shape: Shape,
     packet: &[u8],
 ) -> Result<Option<Vec<u8>>, DecodeFault> {
-    if packet.len() > 100 {
+    if packet.len() > 1_000_000 {
         return Ok(None);
     }
     if !record.suits(shape) {
@@ -86,6 +88,9 @@ fn worked_packets(rt: HostRuntime) -> Result<(), Fail> {
     ] {
         assert_eq!(rt; fault(a, record, shape, packet), Some(expected));
     }
+    for length in 1..10usize {
+        assert_eq!(rt; fault(a, &checked, square, &whole[..length]), Some(FrameFault::Chain));
+    }
     Ok(())
 }
 
@@ -132,7 +137,77 @@ fn worked_pictures(rt: HostRuntime) -> Result<(), Fail> {
     let samples = [16, 16, 16, 16, 16, 16, 16, 16, 128, 128, 128, 128];
     assert!(rt; has_bytes(a, &plain, &zeros, &[0xFE, 0xEB, 0, 0, 2]));
     assert!(rt; is_read_back(a, &plain, &zeros, &[0, 0, 0, 0]));
+    assert!(rt; has_samples(a, &plain, square, &[0xFF, 0xFF, 0, 0, 2], &[0, 0, 0, 0]));
     assert!(rt; is_read_back(a, &cells, &black, &samples));
     assert!(rt; is_read_back(a, &rice, &black, &samples));
+    Ok(())
+}
+
+// The record of an encoder by such a grid of slices. None where a picture of the shape may not have it.
+fn record_of(
+    alloc: Global,
+    shape: Shape,
+    coder: Coder,
+    columns: u32,
+    rows: u32,
+) -> Result<Option<Record>, AllocError> {
+    let width = shape.width();
+    let height = shape.height();
+    if 1 <= columns
+        && columns <= width
+        && 1 <= rows
+        && rows <= height
+        && columns * rows <= 1024
+        && reaches_ends(shape.chroma(), columns, rows, width, height)
+    {
+        let record = default_record(alloc, shape, coder, columns, rows)?;
+        Ok(Some(record))
+    } else {
+        Ok(None)
+    }
+}
+
+// Fills a row with samples that differ from place to place.
+fn fill(row: &mut [u8], start: u32) {
+    for x in 0..row.len() {
+        row[x] = ((x % 251 * 7 + start as usize % 251) % 251) as u8;
+    }
+}
+
+// A picture whose samples differ from place to place, from row to row and from plane to plane.
+fn drawn(rt: &impl Abort, alloc: Global, shape: Shape) -> Result<Picture, AllocError> {
+    let mut picture = Picture::zero(alloc, shape)?;
+    for plane in 0..shape.plane_count() {
+        for y in 0..shape.plane_height(plane) {
+            assert!(rt; has_row(&picture, plane, y, 1));
+            fill(picture.row_mut(plane, y), 3 * y + plane);
+        }
+    }
+    Ok(picture)
+}
+
+// Widths and heights, and the columns and rows of slices: a sample, the longest row and column, and as many slices as may be.
+const SIZES: [(u32, u32, u32, u32); 4] = [
+    (1, 1, 1, 1),
+    (8192, 1, 1, 1),
+    (1, 8192, 1, 1024),
+    (64, 48, 32, 32),
+];
+
+#[test]
+fn sizes_and_grids_at_their_limits(rt: HostRuntime) -> Result<(), Fail> {
+    let a = rt.alloc();
+    for (width, height, columns, rows) in SIZES {
+        let shape = Shape::of(width, height, Chroma::Shifts { h: 1, v: 1 }).ok_or("a shape")?;
+        let picture = drawn(&rt, a, shape)?;
+        let samples = samples_of(a, &picture)?;
+        for coder in [Coder::Range, Coder::Rice] {
+            let record = record_of(a, shape, coder, columns, rows)?.ok_or("a record")?;
+            assert!(rt;
+                is_read_back(a, &record, &picture, samples.as_slice()),
+                "at {width}x{height}"
+            );
+        }
+    }
     Ok(())
 }

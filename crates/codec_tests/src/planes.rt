@@ -55,7 +55,7 @@ fn write(picture: &mut Picture) {
 }
 
 // Whether there is such a row, with at least so many samples.
-fn has_row(picture: &Picture, plane: u32, y: u32, width: u32) -> bool
+pub fn has_row(picture: &Picture, plane: u32, y: u32, width: u32) -> bool
     ensures { IsTrue result → (plane < plane_count picture.now.shape) × (y < plane_height picture.now.shape plane)
         × (width ≤ plane_width picture.now.shape plane) }
 {

@@ -5,6 +5,7 @@ use crate::session::Session;
 use std::alloc::{AllocError, Global};
 use std::process::Abort;
 use std::test::Fail;
+use time_list::ListLane;
 use tl_model::{Edit, Segment, Segments, Side};
 
 /// Ten frames of the first clip, ten of the second, which dissolve in over four, and six of black.
@@ -12,7 +13,7 @@ const LINE: &str = "| 0 0 10 | 1 5 10 mix 0 10 0 4 4 | black 6";
 
 /// Each edit of that timeline, and what it makes, or its refusal: each refusal of each.
 #[rattlefmt::skip]
-const EDITS: [&str; 60] = [
+const EDITS: [&str; 62] = [
     "insert 5 0 12 3 = | 0 0 5 | 0 12 3 | 0 5 5 | 1 5 10 mix 0 10 0 4 4 | black 6",
     "insert 12 black 1 = | 0 0 10 | 1 5 2 mix 0 10 0 2 4 | black 1 | 1 7 8 mix 0 12 2 2 4 | black 6",
     "insert 26 1 0 20 = | 0 0 10 | 1 5 10 mix 0 10 0 4 4 | black 6 | 1 0 20",
@@ -63,9 +64,11 @@ const EDITS: [&str; 60] = [
     "dissolve 20 5 = | 0 0 10 | 1 5 10 mix 0 10 0 4 4 | black 6 mix 1 15 0 5 5",
     "dissolve 10 0 = | 0 0 10 | 1 5 10 | black 6",
     "dissolve 26 1 = refused PastEnd",
+    "dissolve 26 0 = refused PastEnd",
     "dissolve 0 4 = refused NoCut",
     "dissolve 5 0 = refused NoCut",
     "dissolve 20 6 = refused OutsideClip",
+    "dissolve 20 7 = refused OutsideClip",
     "dissolve 10 11 = refused MixTooLong",
     "relink 12 0 10 = | 0 0 10 | 0 10 10 mix 0 10 0 4 4 | black 6",
     "relink 20 1 14 = | 0 0 10 | 1 5 10 mix 0 10 0 4 4 | 1 14 6",
@@ -144,7 +147,7 @@ fn segments_of(rt: &impl Abort, alloc: Global, text: &str) -> Result<Segments, A
 fn expect_state(
     rt: &impl Abort,
     alloc: Global,
-    session: &mut Session,
+    session: &mut Session<ListLane>,
     wanted: &Segments,
     row: &str,
 ) -> Result<(), AllocError> {
@@ -157,7 +160,7 @@ fn expect_state(
 fn take_back(
     rt: &impl Abort,
     alloc: Global,
-    session: &mut Session,
+    session: &mut Session<ListLane>,
     before: &Segments,
     row: &str,
     made: &Segments,
@@ -175,7 +178,7 @@ fn take_back(
 fn expect_edit(
     rt: &impl Abort,
     alloc: Global,
-    session: &mut Session,
+    session: &mut Session<ListLane>,
     before: &Segments,
     row: &str,
 ) -> Result<(), AllocError> {
@@ -202,7 +205,7 @@ fn expect_edit(
 fn make_all(
     rt: &impl Abort,
     alloc: Global,
-    session: &mut Session,
+    session: &mut Session<ListLane>,
     before: &Segments,
     rows: &[&str],
 ) -> Result<(), AllocError> {
@@ -224,10 +227,20 @@ fn play_edits(
     before: &Segments,
     rows: &[&str],
 ) -> Result<(), AllocError> {
-    let mut session = Session::start(rt, alloc, 1, 10_000);
+    let mut session: Session<ListLane> = Session::start(rt, alloc, 1, 10_000);
     let made = make_all(rt, alloc, &mut session, before, rows);
     session.end(rt);
     made
+}
+
+/// A replacement of one segment too many.
+fn refuse_too_many(rt: &impl Abort, alloc: Global) -> Result<(), AllocError> {
+    let segments = many(alloc, 100_001)?;
+    let mut session: Session<ListLane> = Session::start(rt, alloc, 1, 100);
+    let told = session.edit(rt, alloc, 0, &Edit::Replace { segments });
+    session.end(rt);
+    assert_eq!(rt; told?.as_str(), "refused TooManySegments");
+    Ok(())
 }
 
 #[test]
@@ -243,5 +256,6 @@ fn each_edit_is_made_and_taken_back_or_refused(rt: HostRuntime) -> Result<(), Fa
         &AT_THE_LAST_FRAME,
     )?;
     play_edits(&rt, alloc, &many(alloc, 100_000)?, &AT_THE_LAST_SEGMENT)?;
+    refuse_too_many(&rt, alloc)?;
     Ok(())
 }

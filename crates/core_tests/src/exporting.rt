@@ -6,6 +6,7 @@ use crate::reading::Words;
 use render_core::{ExportJob, TakeReply};
 use std::alloc::{AllocError, Global};
 use std::process::Abort;
+use time_list::Lane;
 use tl_model::{Ending, Name, Segments};
 
 /// The number, the name and the timeline of an export.
@@ -17,9 +18,9 @@ fn job_text(alloc: Global, job: &ExportJob) -> Result<String, AllocError> {
 }
 
 /// A take, and the end of what was taken.
-pub fn export_text(
+pub fn export_text<L: Lane>(
     alloc: Global,
-    board: &mut Numbered,
+    board: &mut Numbered<L>,
     pass: u32,
     ending: Ending,
 ) -> Result<String, AllocError> {
@@ -35,10 +36,10 @@ pub fn export_text(
 }
 
 /// The timeline of the export that waits, which is ended.
-pub fn taken_state(
+pub fn taken_state<L: Lane>(
     rt: &impl Abort,
     alloc: Global,
-    board: &mut Numbered,
+    board: &mut Numbered<L>,
 ) -> Result<Segments, AllocError> {
     match board.take_export(0) {
         TakeReply::Taken(job) => {

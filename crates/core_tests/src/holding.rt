@@ -6,11 +6,11 @@ use std::alloc::{AllocError, Global};
 use std::marker::Model;
 use std::process::Abort;
 use test_media::Numbers;
-use time_list::ListLane;
+use time_list::Lane;
 use tl_model::Rendered;
 
 /// A board over the library of numbers.
-pub type Numbered = Board<Numbers, ListLane>;
+pub type Numbered<L> = Board<Numbers, L>;
 
 /// A claim whose recipe can be rendered.
 pub struct Hand {
@@ -44,10 +44,10 @@ pub fn hand_of(hands: &mut Hands, pass: u32) -> &mut Option<Hand> {
     }
 }
 
-pub fn claim_text(
+pub fn claim_text<L: Lane>(
     rt: &impl Abort,
     alloc: Global,
-    board: &mut Numbered,
+    board: &mut Numbered<L>,
     pass: u32,
     hand: &mut Option<Hand>,
 ) -> Result<String, AllocError> {
@@ -69,10 +69,10 @@ pub fn claim_text(
 }
 
 /// Ends a job with its result, where memory is wanting by a second try, and where that fails too it is given back.
-pub fn file_claim(
+pub fn file_claim<L: Lane>(
     rt: &impl Abort,
     alloc: Global,
-    board: &mut Numbered,
+    board: &mut Numbered<L>,
     pass: u32,
     hand: Hand,
 ) -> Result<String, AllocError> {
@@ -91,10 +91,10 @@ pub fn file_claim(
     }
 }
 
-pub fn release_claim(
+pub fn release_claim<L: Lane>(
     rt: &impl Abort,
     alloc: Global,
-    board: &mut Numbered,
+    board: &mut Numbered<L>,
     pass: u32,
     hand: Hand,
 ) -> Result<String, AllocError> {
@@ -105,7 +105,7 @@ pub fn release_claim(
 }
 
 /// Gives back what a pass holds.
-pub fn let_go(rt: &impl Abort, board: &mut Numbered, pass: u32, hand: Option<Hand>) {
+pub fn let_go<L: Lane>(rt: &impl Abort, board: &mut Numbered<L>, pass: u32, hand: Option<Hand>) {
     match hand {
         None => {}
         Some(Hand { claim }) => {

@@ -48,7 +48,7 @@ const UNDONE: [&str; 11] = [
     "1 release = released",
 ];
 
-/// After an undo and a redo the job stays closed.
+/// After an undo and a redo a job that waited stays closed.
 #[rattlefmt::skip]
 const REDONE: [&str; 9] = [
     "0 edit insert 0 0 0 10 = ok 10",
@@ -62,12 +62,29 @@ const REDONE: [&str; 9] = [
     "0 show 5 = frame 5",
 ];
 
+/// After an undo and a redo a held job stays closed by the undo, whether it is filed or released.
+#[rattlefmt::skip]
+const HELD_AND_REDONE: [&str; 11] = [
+    "0 edit insert 0 0 0 10 = ok 10",
+    "0 want 5 1 = wanted 1",
+    "1 claim = claimed 1 0 5",
+    "0 undo = ok 0",
+    "0 redo = ok 10",
+    "0 want 5 1 = wanted 1",
+    "1 file = closed 4",
+    "1 claim = claimed 2 0 5",
+    "0 undo = ok 0",
+    "0 redo = ok 10",
+    "1 release = closed 9",
+];
+
 #[test]
 fn jobs_are_cancelled_filed_and_dropped(rt: HostRuntime) -> Result<(), Fail> {
     play(&rt, rt.alloc(), 4, 100, &CANCELLED)?;
     play(&rt, rt.alloc(), 1, 100, &ONE_FILED)?;
     play(&rt, rt.alloc(), 4, 100, &UNDONE)?;
     play(&rt, rt.alloc(), 4, 100, &REDONE)?;
+    play(&rt, rt.alloc(), 4, 100, &HELD_AND_REDONE)?;
     Ok(())
 }
 

@@ -25,3 +25,5 @@ mod random_calls;
 mod reading;
 #[cfg(test)]
 mod session;
+#[cfg(test)]
+mod wanting;

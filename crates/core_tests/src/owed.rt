@@ -55,9 +55,9 @@ fn entries_are_owed_up_to_the_stop(rt: HostRuntime) -> Result<(), Fail> {
     Ok(())
 }
 
-/// Every reply of every call, with one filed result kept and 38 entries at most.
+/// Replies of each call, with one filed result kept and 40 entries at most.
 #[rattlefmt::skip]
-const EACH_REPLY: [&str; 47] = [
+const EACH_REPLY: [&str; 55] = [
     "0 claim = idle 0",
     "0 play 0 = past 0",
     "0 want 0 1 = past 0",
@@ -80,35 +80,43 @@ const EACH_REPLY: [&str; 47] = [
     "1 claim = claimed 1 0 0",
     "1 file = filed",
     "0 play 0 = frame 0",
+    "0 show 0 = frame 0",
     "0 want 0 1 = wanted 0",
     "0 cancel 1 2 = cancelled 2",
-    "2 release = closed 23",
+    "2 release = closed 24",
     "0 want 9 1 = wanted 1",
     "1 claim = claimed 4 0 3",
     "0 edit extract 3 1 = ok 9",
-    "1 file = closed 27",
+    "1 file = closed 28",
     "2 claim = claimed 5 0 9",
     "2 file = filed",
     "0 play 8 = fault 0 9 Empty",
+    "0 show 8 = fault 0 9 Empty",
     "0 play 0 = pending 0 0",
     "0 play 9 = past 9",
     "0 want 0 2 = wanted 2",
     "1 claim = claimed 6 0 0",
-    "2 claim = full 35 2",
+    "2 claim = full 37 2",
     "0 play 1 = pending 0 1",
-    "0 edit insert 0 black 1 = full 36 2",
-    "0 want 0 1 = full 36 2",
-    "0 cancel 0 1 = full 36 2",
-    "0 play 0 = full 36 2",
-    "2 claim = full 36 2",
+    "0 edit insert 0 black 1 = full 38 2",
+    "0 undo = full 38 2",
+    "0 redo = full 38 2",
+    "0 want 0 1 = full 38 2",
+    "0 cancel 0 1 = full 38 2",
+    "0 play 0 = full 38 2",
+    "0 show 0 = full 38 2",
+    "0 ask o.mkv = full 38 2",
+    "0 mark 1 = full 38 2",
+    "0 skip = full 38 2",
+    "2 claim = full 38 2",
     "1 release = released",
     "0 stop = noted",
-    "1 claim = stopped 38",
-    "0 play 0 = full 38 0",
+    "1 claim = stopped 40",
+    "0 play 0 = full 40 0",
 ];
 
 #[test]
 fn each_call_is_told_each_reply(rt: HostRuntime) -> Result<(), Fail> {
-    play(&rt, rt.alloc(), 1, 38, &EACH_REPLY)?;
+    play(&rt, rt.alloc(), 1, 40, &EACH_REPLY)?;
     Ok(())
 }

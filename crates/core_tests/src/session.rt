@@ -9,20 +9,21 @@ use crate::printing::{
     ask_text, cancel_text, edit_text, note_text, play_text, segments_text, show_text, want_text,
 };
 use crate::reading::{Words, words_of};
-use render_core::{AskReply, Board, Stopper};
+use render_core::{AskReply, Board, Full, Stopper};
 use std::alloc::{AllocError, Global};
 use std::process::Abort;
 use test_media::Numbers;
+use time_list::{Lane, ListLane};
 use tl_model::{Edit, Segments};
 
 /// The board, the right to stop it, and what its passes hold.
-pub struct Session {
-    board: Numbered,
+pub struct Session<L: Lane> {
+    board: Numbered<L>,
     stopper: Option<Stopper>,
     hands: Hands,
 }
 
-fn stop(rt: &impl Abort, board: &mut Numbered, stopper: Option<Stopper>) {
+fn stop<L: Lane>(rt: &impl Abort, board: &mut Numbered<L>, stopper: Option<Stopper>) {
     match stopper {
         None => {}
         Some(stopper) => {
@@ -32,8 +33,8 @@ fn stop(rt: &impl Abort, board: &mut Numbered, stopper: Option<Stopper>) {
     }
 }
 
-impl Session {
-    pub fn start(rt: &impl Abort, alloc: Global, cache: u32, limit: u64) -> Session
+impl<L: Lane> Session<L> {
+    pub fn start(rt: &impl Abort, alloc: Global, cache: u32, limit: u64) -> Session<L>
         requires cache { 1 ≤ cache }
         requires limit { IsJournalLimit limit }
     {
@@ -72,7 +73,11 @@ impl Session {
     /// The timeline, by an export.
     pub fn state(&mut self, rt: &impl Abort, alloc: Global) -> Result<Segments, AllocError> {
         let name = name_of(rt, alloc, b"o".as_slice())?;
-        match self.board.ask_export(alloc, 0, &name) {
+        let asked = match self.board.ask_export(alloc, 0, &name) {
+            Err(Full::NoMemory) => self.board.ask_export(alloc, 0, &name),
+            given => given,
+        };
+        match asked {
             Ok(AskReply::Asked { export: _ }) => taken_state(rt, alloc, &mut self.board),
             Ok(AskReply::EmptyTimeline) => Ok(Segments::from_vec(Vec::new(alloc))),
             Err(_) => panic!(rt; "no room"),
@@ -174,15 +179,17 @@ impl Session {
         }
     }
 
-    /// Makes a call, and makes it again where memory is wanting, which changes nothing.
-    fn call_again(
+    /// Makes a call that is to be told this. Where memory is wanting and isn't to be, it makes the call again: the first
+    /// try changed nothing.
+    fn call_for(
         &mut self,
         rt: &impl Abort,
         alloc: Global,
         words: &[&[u8]],
+        told: &str,
     ) -> Result<String, AllocError> {
         let given = self.call(rt, alloc, &mut Words { left: words })?;
-        if given.as_str() == "no memory" {
+        if given.as_str() == "no memory" && told != "no memory" {
             self.call(rt, alloc, &mut Words { left: words })
         } else {
             Ok(given)
@@ -192,9 +199,10 @@ impl Session {
     /// Makes a call. It is to be told what stands after its sign `=`.
     fn expect(&mut self, rt: &impl Abort, alloc: Global, row: &str) -> Result<(), AllocError> {
         let (call, told) = row.split_once(" = ").expect(rt, "a call and its answer");
+        let told = told.trim();
         let words = words_of(alloc, call.as_bytes())?;
-        let given = self.call_again(rt, alloc, words.as_slice())?;
-        assert_eq!(rt; given.as_str(), told.trim(), "at {row}");
+        let given = self.call_for(rt, alloc, words.as_slice(), told)?;
+        assert_eq!(rt; given.as_str(), told, "at {row}");
         Ok(())
     }
 
@@ -225,7 +233,24 @@ impl Session {
     }
 }
 
-/// Plays the calls of a table, each of which is to be told what stands after its sign, on a new board.
+/// Plays the calls of a table, each of which is to be told what stands after its sign, on a new board over such a timeline.
+pub fn play_over<L: Lane>(
+    rt: &impl Abort,
+    alloc: Global,
+    cache: u32,
+    limit: u64,
+    rows: &[&str],
+) -> Result<(), AllocError>
+    requires cache { 1 ≤ cache }
+    requires limit { IsJournalLimit limit }
+{
+    let mut session: Session<L> = Session::start(rt, alloc, cache, limit);
+    let played = session.play(rt, alloc, rows);
+    session.end(rt);
+    played
+}
+
+/// The same over the plain timeline.
 pub fn play(
     rt: &impl Abort,
     alloc: Global,
@@ -236,10 +261,7 @@ pub fn play(
     requires cache { 1 ≤ cache }
     requires limit { IsJournalLimit limit }
 {
-    let mut session = Session::start(rt, alloc, cache, limit);
-    let played = session.play(rt, alloc, rows);
-    session.end(rt);
-    played
+    play_over::<ListLane>(rt, alloc, cache, limit, rows)
 }
 
 /// The same of calls that semicolons part, in a text of pieces.
