@@ -10,12 +10,16 @@ use std::test::Fail;
 
 /// Texts, and whether each is a line.
 #[rattlefmt::skip]
-const TEXTS: [(&str, bool); 16] = [
+const TEXTS: [(&str, bool); 20] = [
     ("ok 3\n", true),
     ("refused OutsideClip\n", true),
     ("refused EmptyTimeline\n", true),
     ("wanted 3\n", true),
+    ("frame 1\n", true),
+    ("frame 2\n", true),
     ("pending 0\n", true),
+    ("pending 1\n", true),
+    ("pending 2\n", true),
     ("worked 3\n", true),
     ("asked 1\n", true),
     ("fault line 4 Number\n", true),
@@ -172,11 +176,22 @@ fn scripts_are_read_or_faulty(rt: HostRuntime) -> Result<(), Fail> {
     Ok(())
 }
 
+/// Scripts, and what each is written as: a clip always has its timecode.
+#[rattlefmt::skip]
+const WRITTEN: [(&str, &str); 3] = [
+    ("rate 25\nclip A a.mkv 01:00:00:24\nformat as A\ninsert 0 A 0 3\nslip 3 -1\nexport o.mkv\n",
+        "rate 25\nclip A a.mkv 01:00:00:24\nformat as A\ninsert 0 A 0 3\nslip 3 -1\nexport o.mkv\n"),
+    ("rate 25\nclip A a.mkv\nformat as A\ninsert 0 A 0 3\nshow 1\nroll 0 3\nexport o.mkv\n",
+        "rate 25\nclip A a.mkv 00:00:00:00\nformat as A\ninsert 0 A 0 3\nshow 1\nroll 0 3\nexport o.mkv\n"),
+    ("rate 25\nclip A a.mkv\nformat as A\ninsert 0 A 0 3\nwant 0 3\nwork 5\nplay 2\nexport o.mkv\n",
+        "rate 25\nclip A a.mkv 00:00:00:00\nformat as A\ninsert 0 A 0 3\nwant 0 3\nwork 5\nplay 2\nexport o.mkv\n"),
+];
+
 #[test]
-fn a_script_is_written_as_it_was_read(rt: HostRuntime) -> Result<(), Fail> {
-    let text =
-        "rate 25\nclip A a.mkv 01:00:00:24\nformat as A\ninsert 0 A 0 3\nslip 3 -1\nexport o.mkv\n";
-    assert_eq!(rt; rewritten(rt.alloc(), text)?.as_slice(), text.as_bytes());
+fn scripts_are_written_as_they_were_read(rt: HostRuntime) -> Result<(), Fail> {
+    for (text, written) in &WRITTEN {
+        assert_eq!(rt; rewritten(rt.alloc(), text)?.as_slice(), written.as_bytes());
+    }
     assert_eq!(rt;
         chroma_planes(ChromaWord::C411),
         Chroma::Shifts { h: 2, v: 0 }
