@@ -17,6 +17,7 @@ use tl_ports::OpenGate;
 
 /// A board with two queued jobs, of two frames of a clip.
 fn wanted(rt: &impl Abort, alloc: Global, limit: u64) -> (Alone<Numbers, ListLane>, Stopper) {
+    assert!(rt; 1 <= limit && limit < 100);
     let started: (Alone<Numbers, ListLane>, Stopper) = Alone::start(
         alloc, Numbers, 4, limit,
     ).expect(rt, "memory");
@@ -38,6 +39,7 @@ fn wanted(rt: &impl Abort, alloc: Global, limit: u64) -> (Alone<Numbers, ListLan
 fn worked<R: Wait + Abort>(rt: &R, alloc: Global, limit: u64) -> (WorkEnd, Journal) {
     let (mut desk, stopper) = wanted(rt, alloc, limit);
     let end = work_until_stopped(rt, &mut desk, alloc, &OpenGate);
+    assert!(rt; !desk.is_stopped());
     desk.stop(stopper);
     (end, desk.finish())
 }
@@ -73,7 +75,8 @@ fn a_worker_ends_at_a_full_journal(rt: HostRuntime) {
 
 #[test]
 fn a_worker_ends_where_the_session_was_stopped(rt: HostRuntime) {
-    let (mut desk, stopper) = wanted(&rt, rt.alloc(), 100);
+    let (mut desk, stopper) = wanted(&rt, rt.alloc(), 99);
+    assert!(rt; !desk.is_stopped());
     desk.stop(stopper);
     let end = work_until_stopped(&rt, &mut desk, rt.alloc(), &OpenGate);
     assert_eq!(rt; end, WorkEnd::Stopped { len: 3 });
