@@ -102,7 +102,7 @@ impl<'a> RangeReader<'a> {
         ensures kept { AllKept self.new.table set.new }
     {
         let mut at = self.at;
-        let bit = bit_at(self.table, self.bytes, &mut at, &mut set.states, 0, false);
+        let bit = bit_at(self.table, self.bytes, &mut at, &mut set.states, 0);
         self.at = at;
         bit
     }
