@@ -1,5 +1,8 @@
 //! Each call that one pass tries, while another holds the turn and after it left; and passes that meet.
 
+mod spending;
+mod waiting;
+
 ghost use Rattle.std.specs.Prelude.{◌≡◌, []};
 ghost use Rattle.tl_model.specs.Edit.{IsEdit};
 ghost use Rattle.studio.specs.Known.{Knows};
