@@ -51,45 +51,6 @@ fn renew(bytes: &[u8], at: Position) -> Position
     }
 }
 
-// Reads one bit with a state.
-#[inline(always)]
-#[tactic(auto, unfolding(crate::specs::Reading::bit_of, crate::specs::Reading::narrowed, crate::specs::Reading::after_bit), using(crate::proofs::Stream::one_part_lt))]
-pub(crate) fn read_bit(table: &Transition, bytes: &[u8], at: Position, state: u8) -> BitRead
-    requires sound { IsSound bytes.now at }
-    requires kept { IsKept table.now state }
-    ensures bit { result.bit ≡ bit_of (reading_at table.now bytes.now at) state }
-    ensures state { result.state ≡ next_state table.now state result.bit }
-    ensures kept { IsKept table.now result.state }
-    ensures at { reading_at table.now bytes.now result.at ≡ after_bit (reading_at table.now bytes.now at) state }
-    ensures sound { IsSound bytes.now result.at }
-{
-    let one = at.range * u32::from(state) / 256;
-    let zero = at.range - one;
-    if at.low < zero {
-        let narrow = Position {
-            range: zero,
-            low: at.low,
-            taken: at.taken,
-        };
-        BitRead {
-            bit: false,
-            state: table.next(state, false),
-            at: renew(bytes, narrow),
-        }
-    } else {
-        let narrow = Position {
-            range: one,
-            low: at.low - zero,
-            taken: at.taken,
-        };
-        BitRead {
-            bit: true,
-            state: table.next(state, true),
-            at: renew(bytes, narrow),
-        }
-    }
-}
-
 /// A bit, and the range and low of the part that it chooses.
 #[derive(Clone, Copy)]
 struct Part {
@@ -131,61 +92,80 @@ fn part_of(at: Position, state: u8) -> Part
     }
 }
 
-// Reads one bit with a state, without a branch on it.
-#[inline(always)]
-#[tactic(auto, unfolding(crate::specs::Reading::after_bit))]
-fn choose_bit(table: &Transition, bytes: &[u8], at: Position, state: u8) -> BitRead
-    requires sound { IsSound bytes.now at }
-    requires kept { IsKept table.now state }
-    ensures bit { result.bit ≡ bit_of (reading_at table.now bytes.now at) state }
-    ensures state { result.state ≡ next_state table.now state result.bit }
-    ensures kept { IsKept table.now result.state }
-    ensures at { reading_at table.now bytes.now result.at ≡ after_bit (reading_at table.now bytes.now at) state }
-    ensures sound { IsSound bytes.now result.at }
-{
-    let part = part_of(at, table.kept(state));
-    let narrow = Position {
-        range: part.range,
-        low: part.low,
-        taken: at.taken,
-    };
-    BitRead {
-        bit: part.bit,
-        state: table.next(state, part.bit),
-        at: renew(bytes, narrow),
+/// How a bit is read: with a branch on it or without one. The way is a type, so that each compiles to code of its own: told by a
+/// `bool`, one function took a fifth more instructions for a sample.
+pub(crate) trait BitWay {
+    /// Reads one bit with a state.
+    fn read(table: &Transition, bytes: &[u8], at: Position, state: u8) -> BitRead
+        requires sound { IsSound bytes.now at }
+        requires kept { IsKept table.now state }
+        ensures bit { result.bit ≡ bit_of (reading_at table.now bytes.now at) state }
+        ensures state { result.state ≡ next_state table.now state result.bit }
+        ensures kept { IsKept table.now result.state }
+        ensures at { reading_at table.now bytes.now result.at ≡ after_bit (reading_at table.now bytes.now at) state }
+        ensures sound { IsSound bytes.now result.at };
+}
+
+/// With a branch on the bit.
+pub(crate) struct Branching;
+
+impl BitWay for Branching {
+    #[inline(always)]
+    #[tactic(auto, unfolding(crate::specs::Reading::bit_of, crate::specs::Reading::narrowed, crate::specs::Reading::after_bit), using(crate::proofs::Stream::one_part_lt))]
+    fn read(table: &Transition, bytes: &[u8], at: Position, state: u8) -> BitRead {
+        let one = at.range * u32::from(state) / 256;
+        let zero = at.range - one;
+        if at.low < zero {
+            let narrow = Position {
+                range: zero,
+                low: at.low,
+                taken: at.taken,
+            };
+            BitRead {
+                bit: false,
+                state: table.next(state, false),
+                at: renew(bytes, narrow),
+            }
+        } else {
+            let narrow = Position {
+                range: one,
+                low: at.low - zero,
+                taken: at.taken,
+            };
+            BitRead {
+                bit: true,
+                state: table.next(state, true),
+                at: renew(bytes, narrow),
+            }
+        }
     }
 }
 
-// Reads the bit of a place in a set that is as likely 0 as 1, without a branch on it. It stands beside `bit_at`, since one
-// function for both compiles to a slower one: a fifth more instructions for a sample.
-#[inline(always)]
-#[tactic(auto, unfolding(crate::specs::Symbol::bit_at_place, crate::specs::Symbol::after_place))]
-pub(crate) fn even_bit_at(
-    table: &Transition,
-    bytes: &[u8],
-    at: &mut Position,
-    states: &mut [u8; 32],
-    place: usize,
-) -> bool
-    requires place { place < 32 }
-    requires sound { IsSound bytes.now at.old }
-    requires kept { AllKept table.now states.old }
-    ensures bit { result ≡ bit_at_place (source_at table.now bytes.now at.old states.old) place }
-    ensures after { source_at table.now bytes.now at.new states.new
-        ≡ after_place (source_at table.now bytes.now at.old states.old) place }
-    ensures sound { IsSound bytes.now at.new }
-    ensures kept { AllKept table.now states.new }
-{
-    let read = choose_bit(table, bytes, *at, states[place]);
-    states[place] = read.state;
-    *at = read.at;
-    read.bit
+/// Without a branch on the bit, for one that is as likely 0 as 1.
+pub(crate) struct Even;
+
+impl BitWay for Even {
+    #[inline(always)]
+    #[tactic(auto, unfolding(crate::specs::Reading::after_bit))]
+    fn read(table: &Transition, bytes: &[u8], at: Position, state: u8) -> BitRead {
+        let part = part_of(at, table.kept(state));
+        let narrow = Position {
+            range: part.range,
+            low: part.low,
+            taken: at.taken,
+        };
+        BitRead {
+            bit: part.bit,
+            state: table.next(state, part.bit),
+            at: renew(bytes, narrow),
+        }
+    }
 }
 
-// Reads the bit of a place in a set.
+// Reads the bit of a place in a set, by a way.
 #[inline(always)]
 #[tactic(auto, unfolding(crate::specs::Symbol::bit_at_place, crate::specs::Symbol::after_place))]
-pub(crate) fn bit_at(
+pub(crate) fn bit_at<W: BitWay>(
     table: &Transition,
     bytes: &[u8],
     at: &mut Position,
@@ -201,7 +181,7 @@ pub(crate) fn bit_at(
     ensures sound { IsSound bytes.now at.new }
     ensures kept { AllKept table.now states.new }
 {
-    let read = read_bit(table, bytes, *at, states[place]);
+    let read = W::read(table, bytes, *at, states[place]);
     states[place] = read.state;
     *at = read.at;
     read.bit

@@ -4,7 +4,7 @@ ghost use Rattle.ffv1_range.specs.Transition.{AllKept};
 ghost use Rattle.ffv1_range.specs.Symbol.{Reads, exponent_at, magnitude_at, symbol_at};
 ghost use Rattle.ffv1_range.specs.Position.{source_at, IsSound};
 
-use crate::read_bit::{bit_at, even_bit_at};
+use crate::read_bit::{Branching, Even, bit_at};
 use crate::reader::Position;
 use crate::transition::Transition;
 
@@ -28,7 +28,7 @@ fn goes_on(
     ensures sound { IsSound bytes.now at.new }
     ensures kept { AllKept table.now states.new }
 {
-    bit_at(table, bytes, at, states, 1 + i)
+    bit_at::<Branching>(table, bytes, at, states, 1 + i)
 }
 
 // Reads an exponent of at most 31, or none. Most have few bits, whose places are known here.
@@ -86,7 +86,7 @@ fn long_exponent(
     ensures kept { AllKept table.now states.new }
 {
     for i in 5..32usize {
-        if !bit_at(table, bytes, at, states, 1 + i.min(9)) {
+        if !bit_at::<Branching>(table, bytes, at, states, 1 + i.min(9)) {
             return Some(i as u32);
         }
     }
@@ -112,7 +112,7 @@ fn magnitude_from(
 {
     let mut magnitude = 1;
     for i in (0..exponent as usize).rev() {
-        let bit = even_bit_at(table, bytes, at, states, 22 + i.min(9));
+        let bit = bit_at::<Even>(table, bytes, at, states, 22 + i.min(9));
         magnitude = 2 * magnitude + u32::from(bit);
     }
     magnitude
@@ -135,7 +135,7 @@ pub(crate) fn symbol_from(
     ensures sound { IsSound bytes.now at.new }
     ensures kept { AllKept table.now states.new }
 {
-    if bit_at(table, bytes, at, states, 0) {
+    if bit_at::<Branching>(table, bytes, at, states, 0) {
         return Some(0);
     }
     let exponent = exponent_from(table, bytes, at, states)?;
@@ -144,7 +144,7 @@ pub(crate) fn symbol_from(
         return Some(magnitude);
     }
     let place = 11 + exponent.min(10) as usize;
-    let negative = even_bit_at(table, bytes, at, states, place);
+    let negative = bit_at::<Even>(table, bytes, at, states, place);
     Some(with_sign(magnitude, negative))
 }
 

@@ -7,7 +7,7 @@ ghost use Rattle.ffv1_range.specs.Symbol.{Reads, spelling, too_long, bit_at_plac
 ghost use Rattle.ffv1_range.specs.Law.{IsSpelled};
 ghost use Rattle.ffv1_range.specs.Position.{reading_at, IsSound};
 
-use crate::read_bit::{bit_at, byte_at, read_bit};
+use crate::read_bit::{BitWay, Branching, bit_at, byte_at};
 use crate::read_symbol::symbol_from;
 use crate::states::States;
 use crate::transition::Transition;
@@ -86,7 +86,7 @@ impl<'a> RangeReader<'a> {
         ensures kept { IsKept self.new.table state.new }
         ensures reader { self.new ≡ after_bit self.old state.old }
     {
-        let read = read_bit(self.table, self.bytes, self.at, *state);
+        let read = Branching::read(self.table, self.bytes, self.at, *state);
         *state = read.state;
         self.at = read.at;
         read.bit
@@ -102,7 +102,7 @@ impl<'a> RangeReader<'a> {
         ensures kept { AllKept self.new.table set.new }
     {
         let mut at = self.at;
-        let bit = bit_at(self.table, self.bytes, &mut at, &mut set.states, 0);
+        let bit = bit_at::<Branching>(self.table, self.bytes, &mut at, &mut set.states, 0);
         self.at = at;
         bit
     }

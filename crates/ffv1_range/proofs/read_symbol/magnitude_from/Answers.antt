@@ -9,8 +9,8 @@ loop-i-preserved c =
     record {
       left = grind (arith, magnitude_at-next);
       small = rw (e, pow-succ' 2 (c.args.exponent + 1 - c.loop-i.i)) (grind arith);
-      sound = c.even_bit_at-bit.ensures.sound;
-      kept = c.even_bit_at-bit.ensures.kept;
+      sound = c.bit_at-bit.ensures.sound;
+      kept = c.bit_at-bit.ensures.kept;
     }
 
 pub returns-clause-magnitude : goal.returns-clause-magnitude
