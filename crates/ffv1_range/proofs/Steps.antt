@@ -39,6 +39,15 @@ pub magnitude_at-end : (i a : ℕ) (s : Source) → i ≡ 0 → magnitude_at i a
 unfolding magnitude_at
 magnitude_at-end i a s e = rw e refl
 
+-- the same of one of the last bits, whose place is told, where the exponent is above it
+pub magnitude_at_bit : (e i a : ℕ) (s : Source) → i < e → i < 10 → magnitude_at (min e (i + 1)) a s ≡ magnitude_at (min e i) (2 * a + (if bit_at_place s (22 + i) then 1 else 0)) (after_place s (22 + i))
+unfolding magnitude_at
+magnitude_at_bit e i a s above few =
+    let here : min e (i + 1) ≡ suc i = omega arith in
+    let left : min e i ≡ i = omega arith in
+    let place : min i 9 ≡ i = omega arith in
+    rw (here, left) (subst (λ k. magnitude_at (suc i) a s ≡ magnitude_at i (2 * a + (if bit_at_place s (22 + k) then 1 else 0)) (after_place s (22 + k))) place refl)
+
 -- ---- the same of what is written
 pub ones-next : (n i : ℕ) → i < n → ones i (n - i) ≡ (1 + min i 9, true) ∷ ones (i + 1) (n - (i + 1))
 unfolding ones
