@@ -1,21 +1,46 @@
 //! Edits of a range of frames, and of the segment at a frame.
 
-ghost use Rattle.std.specs.Prelude.{◌+◌, ◌^◌, ◌<◌, ◌≤◌, ◌++◌, nat_lt, length, take, drop};
+ghost use Rattle.std.specs.Prelude.{◌≡◌, ◌+◌, ◌^◌, ◌<◌, ◌≤◌, ◌++◌, nat_lt, length, take, drop, None, Some, MatchResult};
 ghost use Rattle.tl_limits.specs.Limits.{max_frames};
 ghost use Rattle.tl_model.specs.Cells.{cells};
 ghost use Rattle.tl_model.specs.Edit.{IsEdit};
-ghost use Rattle.tl_model.specs.Segment.{ArePieces};
+ghost use Rattle.tl_model.specs.Segment.{ArePieces, Reaches};
 ghost use Rattle.tl_model.specs.declared.edit.Edit.TheVariants as edit;
-ghost use Rattle.time_list.specs.Changes.{Rearranges, Changes, IsReshape, reshaped};
+ghost use Rattle.time_list.specs.Apply.{first_of, against};
+ghost use Rattle.time_list.specs.Changes.{IsCutAt, Rearranges, Changes, IsReshape, reshaped};
 ghost use Rattle.time_list.specs.Edits.{rearranged, headed, inserted, extracted, overwritten, lifted, divided, in_segment, joined};
 
 use crate::change::{Change, between, put_segment};
-use crate::cut::{cut_after, cut_at, end_after, frame_at};
+use crate::cut::{Cut, cut_after, cut_at, end_after, frame_at};
 use crate::lane::ApplyFault;
 use crate::reshape::{self, Reshape};
 use crate::taken;
 use std::alloc::Global;
 use tl_model::{EditRefusal, Media, Segment, Side};
+
+/// The place before frame `at`, where so many frames from a side on may be taken. What an overwrite is refused for is
+/// what an insert is.
+fn place_for<M: Media>(
+    media: &M,
+    items: &[Segment],
+    at: u32,
+    side: Side,
+    len: u32,
+) -> Result<Cut, EditRefusal>
+    requires pieces { ArePieces items.now }
+    requires some { 1 ≤ len }
+    ensures { let reason = first_of (against (M.library media.now) (inserted at side len (cells items.now))) in
+        MatchResult result (λ cut. (reason ≡ None) × IsCutAt items.now at cut × Reaches side len) (λ why. reason ≡ Some why) }
+{
+    let cut = match cut_at(items, at) {
+        Some(cut) => cut,
+        None => return Err(EditRefusal::PastEnd),
+    };
+    match taken::check(media, side, 0, len, false) {
+        Ok(()) => Ok(cut),
+        Err(why) => Err(why),
+    }
+}
 
 /// New frames from a side on before frame `at`.
 pub(crate) fn insert<M: Media>(
@@ -30,14 +55,10 @@ pub(crate) fn insert<M: Media>(
     requires formed { IsEdit (edit.Insert at side len) }
     ensures { Changes (M.library media.now) items.now (inserted at side len (cells items.now)) result }
 {
-    let cut = match cut_at(items, at) {
-        Some(cut) => cut,
-        None => return Err(ApplyFault::Refused(EditRefusal::PastEnd)),
-    };
-    match taken::check(media, side, 0, len, false) {
-        Ok(()) => {}
+    let cut = match place_for(media, items, at, side, len) {
+        Ok(cut) => cut,
         Err(why) => return Err(ApplyFault::Refused(why)),
-    }
+    };
     let new = Segment {
         first: side,
         len,
@@ -63,14 +84,10 @@ pub(crate) fn overwrite<M: Media>(
     requires formed { IsEdit (edit.Overwrite at side len) }
     ensures { Changes (M.library media.now) items.now (overwritten at side len (cells items.now)) result }
 {
-    let cut = match cut_at(items, at) {
-        Some(cut) => cut,
-        None => return Err(ApplyFault::Refused(EditRefusal::PastEnd)),
-    };
-    match taken::check(media, side, 0, len, false) {
-        Ok(()) => {}
+    let cut = match place_for(media, items, at, side, len) {
+        Ok(cut) => cut,
         Err(why) => return Err(ApplyFault::Refused(why)),
-    }
+    };
     let new = Segment {
         first: side,
         len,
