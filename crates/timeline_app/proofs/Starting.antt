@@ -1,12 +1,13 @@
 -- How a session that was asked for starts, or why it doesn't.
-use Rattle.std.proofs.Common.{◌≡◌, ℕ, Bool, List, [], inl, inr, refl, ap, subst, ◌∙◌}
+use Rattle.std.proofs.Common.{◌≡◌, ◌⊎◌, ℕ, List, [], inl, inr, refl, ap, subst, ◌∙◌}
 use Rattle.pic_planes.specs.Picture.{Image}
 use Rattle.tl_model.specs.declared.journal.Entry.{Entry}
-use Rattle.tl_ports.specs.Seen.{Outside, StoreSeen}
+use Rattle.tl_ports.specs.Seen.{StoreSeen}
 use Rattle.turn_lock.specs.Passes.{TurnOf}
 use Rattle.render_core.specs.Board.{BoardOf}
 use Rattle.edit_desk.specs.Desk.{FixedOf, DeskOf}
 use Rattle.clip_store.specs.Library.{LibraryOf}
+use Rattle.script_lang.specs.declared.out_line.OutLine.TheVariants as out
 use Rattle.timeline_app.specs.declared.opening.Opening.{Opening}
 use Rattle.timeline_app.specs.declared.outcome.Outcome.{Outcome}
 use Rattle.timeline_app.specs.declared.session.HeadStop.TheVariants as stop
@@ -14,7 +15,7 @@ use Rattle.timeline_app.specs.declared.words.Asked.{Asked}
 use Rattle.timeline_app.specs.Course.{Course, RunsCourse, session_at}
 use Rattle.timeline_app.specs.Made.{Around}
 use Rattle.timeline_app.specs.Opening.{IsOpened}
-use Rattle.timeline_app.specs.Runs.{PlaysOpened, RunsAsked, desk_at, program_of}
+use Rattle.timeline_app.specs.Runs.{EndsEarly, IsQuiet, RunsAsked, desk_at, program_of}
 use Rattle.timeline_app.specs.Session.{fetched_by}
 use Rattle.timeline_app.specs.Together.{main_desk}
 
@@ -49,6 +50,19 @@ module _ (others : ℕ) (asked : Asked) (o : Opening) (around : Around) (journal
       (subst (λ (x : DeskOf LibraryOf (Unit {0})). runs_over (main_desk studio []) x) (studio_there asked o.library studio journal same cache limit) runs)
 
 -- ---- what was asked for
+
+-- Memory ran out before the session began.
+pub record Wants (around : Around) (outcome : Outcome) : Type 0 where
+  pub says : EndsEarly around.tells.out around.old.out around.new.out (out.NoMemory, 5) outcome
+  pub store : around.new.store ≡ around.old.store
+  pub quiet : IsQuiet around.old around.new
+
+-- A session that was opened is played from an empty journal to the one of the outcome, with so many passes beside main's; or memory ran
+-- out before it began.
+abbrev pub PlaysOpened : (others : ℕ) → Asked → Opening → Around → Outcome → Type 0
+PlaysOpened others asked opening around outcome = Wants around outcome
+    ⊎ ((course : Course Image) × RunsCourse (program_of opening others around) (session_at (desk_at asked opening.library []) around.old)
+    (session_at (desk_at asked opening.library outcome.journal) around.new) course outcome.status)
 
 -- a session that was opened over a store that is as it was
 still_there : (others : ℕ) (asked : Asked) (o : Opening) (given : Around) (store : StoreSeen) (outcome : Outcome) → store ≡ given.old.store

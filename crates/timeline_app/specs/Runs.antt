@@ -59,19 +59,6 @@ pub record IsQuiet (old new : Outside) : Type 0 where
   pub vault : new.vault ≡ old.vault
   pub screen : new.screen ≡ old.screen
 
--- Memory ran out before the session began.
-pub record Wants (around : Around) (outcome : Outcome) : Type 0 where
-  pub says : EndsEarly around.tells.out around.old.out around.new.out (out.NoMemory, 5) outcome
-  pub store : around.new.store ≡ around.old.store
-  pub quiet : IsQuiet around.old around.new
-
--- A session that was opened is played from an empty journal to the one of the outcome, with so many passes beside main's; or memory ran
--- out before it began.
-abbrev pub PlaysOpened : (others : ℕ) → Asked → Opening → Around → Outcome → Type 0
-PlaysOpened others asked opening around outcome = Wants around outcome
-    ⊎ ((course : Course Image) × RunsCourse (program_of opening others around) (session_at (desk_at asked opening.library []) around.old)
-    (session_at (desk_at asked opening.library outcome.journal) around.new) course outcome.status)
-
 -- The session didn't start, and `out` got the line that says why.
 pub record Unstarted (asked : Asked) (around : Around) (outcome : Outcome) : Type 0 where
   pub why : HeadStop

@@ -1,81 +1,17 @@
 //! The top calls.
 
-ghost use Rattle.std.specs.Prelude.{◌≡◌, ◌≤◌, None, map, string_bytes};
-ghost use Rattle.tl_limits.specs.Limits.{IsJournalLimit, max_workers};
-ghost use Rattle.timeline_app.specs.Runs.{RunsAsked, Runs, manned, nobody};
+ghost use Rattle.std.specs.Prelude.{◌≡◌, None, map, string_bytes};
+ghost use Rattle.timeline_app.specs.Runs.{Runs, manned, nobody};
 
-use crate::early::{end_early, end_wanting, misuse};
+use crate::early::{end_wanting, misuse};
 use crate::made::made_store;
-use crate::opening::open_library;
 use crate::outcome::Outcome;
 use crate::way::{play_alone, play_manned};
-use crate::words::{Asked, made_frames, read_words};
+use crate::words::{made_frames, read_words};
 use std::alloc::Global;
 use std::sync::Wait;
 use std::thread::Threads;
 use tl_ports::{Gate, Sink, Store, Vault};
-
-/// Opens the session that the words ask for, and plays it alone.
-fn run_asked<T: Store, V: Vault, S: Sink, O: Sink>(
-    alloc: Global,
-    asked: Asked,
-    store: &mut T,
-    vault: &mut V,
-    screen: &mut S,
-    out: &mut O,
-) -> Outcome
-    requires idle { (V.seen vault.old).begun ≡ None }
-    requires cache { 1 ≤ asked.cache }
-    requires journal { IsJournalLimit asked.journal }
-    ensures { RunsAsked 0 asked.entry
-        (record {
-          old = record { store = T.seen store.old; vault = V.seen vault.old; screen = S.seen screen.old; out = O.seen out.old };
-          new = record { store = T.seen store.new; vault = V.seen vault.new; screen = S.seen screen.new; out = O.seen out.new };
-          tells = record { store = T.tells; vault = V.tells; screen = S.tells; out = O.tells };
-        })
-        result }
-{
-    match open_library(alloc, store, asked.script) {
-        Ok(opening) => play_alone(alloc, asked, opening, store, vault, screen, out),
-        Err(why) => end_early(alloc, out, &why),
-    }
-}
-
-/// Opens the session that the words ask for, and plays it beside a crew.
-fn run_manned<
-    R: Threads + Wait + Sync,
-    T: Store,
-    V: Vault + Send,
-    S: Sink,
-    O: Sink,
-    G: Gate + Sync,
->(
-    rt: &R,
-    alloc: Global,
-    asked: Asked,
-    store: &mut T,
-    vault: &mut V,
-    screen: &mut S,
-    out: &mut O,
-    gate: &G,
-) -> Outcome
-    requires idle { (V.seen vault.old).begun ≡ None }
-    requires workers { asked.workers ≤ max_workers }
-    requires cache { 1 ≤ asked.cache }
-    requires journal { IsJournalLimit asked.journal }
-    ensures { RunsAsked (manned asked.entry.workers) asked.entry
-        (record {
-          old = record { store = T.seen store.old; vault = V.seen vault.old; screen = S.seen screen.old; out = O.seen out.old };
-          new = record { store = T.seen store.new; vault = V.seen vault.new; screen = S.seen screen.new; out = O.seen out.new };
-          tells = record { store = T.tells; vault = V.tells; screen = S.tells; out = O.tells };
-        })
-        result }
-{
-    match open_library(alloc, store, asked.script) {
-        Ok(opening) => play_manned(rt, alloc, asked, opening, store, vault, screen, out, gate),
-        Err(why) => end_early(alloc, out, &why),
-    }
-}
 
 /// Does what the words of a command line ask for, alone on one thread, and always returns.
 ///
@@ -103,9 +39,9 @@ pub fn run_alone<T: Store, V: Vault, S: Sink, O: Sink>(
 {
     match read_words(alloc, words) {
         Ok(Some(asked)) => match made_frames(asked.script) {
-            None => run_asked(alloc, asked, store, vault, screen, out),
+            None => play_alone(alloc, asked, store, vault, screen, out),
             Some(frames) => match made_store(alloc, asked.script, frames) {
-                Ok(mut made) => run_asked(alloc, asked, &mut made, vault, screen, out),
+                Ok(mut made) => play_alone(alloc, asked, &mut made, vault, screen, out),
                 Err(_) => end_wanting(alloc, out),
             },
         },
@@ -142,9 +78,9 @@ pub fn run<R: Threads + Wait + Sync, T: Store, V: Vault + Send, S: Sink, O: Sink
 {
     match read_words(alloc, words) {
         Ok(Some(asked)) => match made_frames(asked.script) {
-            None => run_manned(rt, alloc, asked, store, vault, screen, out, gate),
+            None => play_manned(rt, alloc, asked, store, vault, screen, out, gate),
             Some(frames) => match made_store(alloc, asked.script, frames) {
-                Ok(mut made) => run_manned(rt, alloc, asked, &mut made, vault, screen, out, gate),
+                Ok(mut made) => play_manned(rt, alloc, asked, &mut made, vault, screen, out, gate),
                 Err(_) => end_wanting(alloc, out),
             },
         },

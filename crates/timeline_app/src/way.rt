@@ -1,12 +1,11 @@
-//! A session that was opened is begun, and played to its end: by main alone, or beside a crew in threads of their own.
+//! The session that the words ask for is opened, begun, and played to its end: by main alone, or beside a crew in threads of their own.
 
-ghost use Rattle.std.specs.Prelude.{◌≡◌, ◌≤◌, None, length};
-ghost use Rattle.tl_limits.specs.Limits.{IsJournalLimit, max_clips, max_workers};
-ghost use Rattle.script_lang.specs.ScriptSound.{IsScript};
-ghost use Rattle.timeline_app.specs.Runs.{PlaysOpened, manned};
+ghost use Rattle.std.specs.Prelude.{◌≡◌, ◌≤◌, None};
+ghost use Rattle.tl_limits.specs.Limits.{IsJournalLimit, max_workers};
+ghost use Rattle.timeline_app.specs.Runs.{RunsAsked, manned};
 
-use crate::early::end_wanting;
-use crate::opening::Opening;
+use crate::early::{end_early, end_wanting};
+use crate::opening::open_library;
 use crate::outcome::Outcome;
 use crate::play::run_desk;
 use crate::together::run_together;
@@ -18,11 +17,10 @@ use std::thread::Threads;
 use studio::Studio;
 use tl_ports::{Gate, Sink, Store, Vault};
 
-/// Main plays it alone.
+/// Opens the session that the words ask for, and main plays it alone.
 pub fn play_alone<T: Store, V: Vault, S: Sink, O: Sink>(
     alloc: Global,
     asked: Asked,
-    opening: Opening,
     store: &mut T,
     vault: &mut V,
     screen: &mut S,
@@ -31,9 +29,7 @@ pub fn play_alone<T: Store, V: Vault, S: Sink, O: Sink>(
     requires idle { (V.seen vault.old).begun ≡ None }
     requires cache { 1 ≤ asked.cache }
     requires journal { IsJournalLimit asked.journal }
-    requires script { IsScript opening.script }
-    requires clips { length opening.clips ≤ max_clips }
-    ensures { PlaysOpened 0 asked.entry opening
+    ensures { RunsAsked 0 asked.entry
         (record {
           old = record { store = T.seen store.old; vault = V.seen vault.old; screen = S.seen screen.old; out = O.seen out.old };
           new = record { store = T.seen store.new; vault = V.seen vault.new; screen = S.seen screen.new; out = O.seen out.new };
@@ -41,20 +37,27 @@ pub fn play_alone<T: Store, V: Vault, S: Sink, O: Sink>(
         })
         result }
 {
-    let Opening {
-        script,
-        clips,
-        library,
-    } = opening;
-    match Alone::start(alloc, library, asked.cache, asked.journal) {
-        Ok((desk, stopper)) => run_desk(
-            alloc, desk, stopper, &script, &clips, store, vault, screen, out,
-        ),
-        Err(_) => end_wanting(alloc, out),
+    match open_library(alloc, store, asked.script) {
+        Ok(opening) => match Alone::start(alloc, opening.library, asked.cache, asked.journal) {
+            Ok((desk, stopper)) => run_desk(
+                alloc,
+                desk,
+                stopper,
+                &opening.script,
+                &opening.clips,
+                store,
+                vault,
+                screen,
+                out,
+            ),
+            Err(_) => end_wanting(alloc, out),
+        },
+        Err(why) => end_early(alloc, out, &why),
     }
 }
 
-/// Main plays it beside an exporter and the workers that were asked for, each in a thread of its own.
+/// Opens the session that the words ask for, and main plays it beside an exporter and the workers that were asked for, each in a thread of
+/// its own.
 pub fn play_manned<
     R: Threads + Wait + Sync,
     T: Store,
@@ -66,7 +69,6 @@ pub fn play_manned<
     rt: &R,
     alloc: Global,
     asked: Asked,
-    opening: Opening,
     store: &mut T,
     vault: &mut V,
     screen: &mut S,
@@ -77,9 +79,7 @@ pub fn play_manned<
     requires workers { asked.workers ≤ max_workers }
     requires cache { 1 ≤ asked.cache }
     requires journal { IsJournalLimit asked.journal }
-    requires script { IsScript opening.script }
-    requires clips { length opening.clips ≤ max_clips }
-    ensures { PlaysOpened (manned asked.entry.workers) asked.entry opening
+    ensures { RunsAsked (manned asked.entry.workers) asked.entry
         (record {
           old = record { store = T.seen store.old; vault = V.seen vault.old; screen = S.seen screen.old; out = O.seen out.old };
           new = record { store = T.seen store.new; vault = V.seen vault.new; screen = S.seen screen.new; out = O.seen out.new };
@@ -87,27 +87,25 @@ pub fn play_manned<
         })
         result }
 {
-    let Opening {
-        script,
-        clips,
-        library,
-    } = opening;
-    match Studio::start(alloc, library, asked.cache, asked.journal) {
-        Ok((studio, main, stopper)) => run_together(
-            rt,
-            alloc,
-            studio,
-            main,
-            stopper,
-            &script,
-            &clips,
-            asked.workers,
-            gate,
-            store,
-            vault,
-            screen,
-            out,
-        ),
-        Err(_) => end_wanting(alloc, out),
+    match open_library(alloc, store, asked.script) {
+        Ok(opening) => match Studio::start(alloc, opening.library, asked.cache, asked.journal) {
+            Ok((studio, main, stopper)) => run_together(
+                rt,
+                alloc,
+                studio,
+                main,
+                stopper,
+                &opening.script,
+                &opening.clips,
+                asked.workers,
+                gate,
+                store,
+                vault,
+                screen,
+                out,
+            ),
+            Err(_) => end_wanting(alloc, out),
+        },
+        Err(why) => end_early(alloc, out, &why),
     }
 }
