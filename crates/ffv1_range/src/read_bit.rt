@@ -111,7 +111,7 @@ pub(crate) struct Branching;
 
 impl BitWay for Branching {
     #[inline(always)]
-    #[tactic(auto, unfolding(crate::specs::Reading::bit_of, crate::specs::Reading::narrowed, crate::specs::Reading::after_bit), using(crate::proofs::Stream::one_part_lt))]
+    #[tactic(auto, using(crate::proofs::Stream::one_part_lt), unfolding(crate::specs::Reading::bit_of, crate::specs::Reading::narrowed, crate::specs::Reading::after_bit))]
     fn read(table: &Transition, bytes: &[u8], at: Position, state: u8) -> BitRead {
         let one = at.range * u32::from(state) / 256;
         let zero = at.range - one;

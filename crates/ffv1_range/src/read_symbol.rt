@@ -217,7 +217,8 @@ fn short_exponent(
     requires sound { IsSound bytes.now at.old }
     requires kept { AllKept table.now states.old }
     ensures exponent { IfSome result (λ exponent. (exponent < 5)
-        × (exponent_at 32 0 (source_at table.now bytes.now at.old states.old) ≡ (Some exponent, source_at table.now bytes.now at.new states.new))) }
+        × (exponent_at 32 0 (source_at table.now bytes.now at.old states.old)
+        ≡ (Some exponent, source_at table.now bytes.now at.new states.new))) }
     ensures long { result ≡ None → exponent_at 32 0 (source_at table.now bytes.now at.old states.old)
         ≡ exponent_at 27 5 (source_at table.now bytes.now at.new states.new) }
     ensures sound { IsSound bytes.now at.new }

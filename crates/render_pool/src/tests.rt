@@ -51,7 +51,8 @@ struct Row {
 }
 
 /// A claim wants room for itself, its end, and the stop, which is owed. Behind the edit and the want there is none with 4 entries; with 5
-/// and 6 there is for the first job. The worker ends at the first claim that doesn't fit, though its job is still queued: it doesn't try again.
+/// and 6 there is for the first job. The worker ends at the first claim that doesn't fit, though its job is still queued: it tries no
+/// other.
 const ROWS: [Row; 3] = [
     Row { limit: 4, len: 2 },
     Row { limit: 5, len: 4 },

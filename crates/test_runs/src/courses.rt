@@ -21,7 +21,8 @@ pub const COURSES: [(&str, Ended); 16] = [
     // A faulty script ends before anything is done.
     ("rate 25\nclip A a.mkv\nformat as A\ninsert 0 A 0 0\nexport o.mkv\n",
         Ended { status: 3, lines: "fault line 4 Number\n", exported: None, shown: &[] }),
-    ("rate 25\nclip A a.mkv\nclip A b.mkv\nformat as A\n", Ended { status: 3, lines: "fault line 3 SameName\n", exported: None, shown: &[] }),
+    ("rate 25\nclip A a.mkv\nclip A b.mkv\nformat as A\n",
+        Ended { status: 3, lines: "fault line 3 SameName\n", exported: None, shown: &[] }),
     ("rate 25\nclip A a.mkv\nformat as A\ninsert 0 A 0 3\nexport a.mkv\n",
         Ended { status: 3, lines: "fault line 5 SameExport\n", exported: None, shown: &[] }),
     ("", Ended { status: 3, lines: "fault line 1 Order\n", exported: None, shown: &[] }),

@@ -18,10 +18,12 @@ pub const FAILING: [(&str, Failing, Ended); 12] = [
     ("rate 25\nclip A a.mkv\nclip A b.mkv\nformat as A\ninsert 0 A 0 3\nexport o.mkv\n", Failing { store: &[2], ..NONE_FAILS },
         Ended { status: 3, lines: "fault line 3 SameName\n", exported: None, shown: &[] }),
     // The vault, at the begin, at the first piece, half of which is there, and at the end, when the file is whole.
-    (THREE, Failing { vault: &[1], ..NONE_FAILS }, Ended { status: 4, lines: "ok 3\nasked 1\nexport 1 sink\n", exported: None, shown: &[] }),
+    (THREE, Failing { vault: &[1], ..NONE_FAILS },
+        Ended { status: 4, lines: "ok 3\nasked 1\nexport 1 sink\n", exported: None, shown: &[] }),
     (THREE, Failing { vault: &[2], ..NONE_FAILS },
         Ended { status: 4, lines: "ok 3\nasked 1\nexport 1 sink\n", exported: Some(52 / 2), shown: &[] }),
-    (THREE, Failing { vault: &[7], ..NONE_FAILS }, Ended { status: 4, lines: "ok 3\nasked 1\nexport 1 sink\n", exported: WHOLE, shown: &[] }),
+    (THREE, Failing { vault: &[7], ..NONE_FAILS },
+        Ended { status: 4, lines: "ok 3\nasked 1\nexport 1 sink\n", exported: WHOLE, shown: &[] }),
     // `out`, of whose line half is there. What was asked for is exported all the same, and nothing more is put.
     (THREE, Failing { out: &[1], ..NONE_FAILS }, Ended { status: 4, lines: "ok", exported: None, shown: &[] }),
     (THREE, Failing { out: &[2], ..NONE_FAILS }, Ended { status: 4, lines: "ok 3\naske", exported: WHOLE, shown: &[] }),
