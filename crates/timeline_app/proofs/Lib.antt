@@ -27,6 +27,7 @@ mod Joined
 mod Plain
 mod Exported
 mod Finished
+mod First
 mod Turns
 mod Gathering
 mod Gathered

@@ -21,6 +21,7 @@ use Rattle.timeline_app.specs.Course.{IsCause, script_calls}
 use Rattle.timeline_app.specs.Ending.{said_by}
 use Rattle.timeline_app.proofs.Causes.{fetch_within, refused_there, rose_within}
 use Rattle.timeline_app.proofs.Courses.{halted_by, output_by, part_front, part_whole}
+use Rattle.timeline_app.proofs.First.{first_alone, first_then, more_says, more_shows}
 use Rattle.timeline_app.proofs.Speaking.{says_then}
 use Rattle.timeline_app.proofs.Stopped.{part_says, part_shows, shows_then}
 use Rattle.timeline_app.proofs.Whole.{Scripted}
@@ -31,6 +32,8 @@ module _ {M K F : Type 0} (s : Setting M F) where
     part = part_whole s old played body f early late said;
     says = subst (λ (ls : List OutLine). GotAll s.tells.out old.out played.out (texts ls)) (sym (append-nil (flat_map (lines_of (s.library old.desk.fixed.library)) f.played))) f.puts.0;
     shows = subst (GotAll s.tells.screen old.screen played.screen) (sym (append-nil (flat_map (rows_of s (s.library old.desk.fixed.library)) f.played))) f.puts.1;
+    said_whole = first_alone s.tells.out old.out played.out (texts (flat_map (lines_of (s.library old.desk.fixed.library)) f.played)) f.puts.0;
+    shown_whole = first_alone s.tells.screen old.screen played.screen (flat_map (rows_of s (s.library old.desk.fixed.library)) f.played) f.puts.1;
     le = f.lasts.out;
     files = f.lasts.files;
     cause = λ new out more h later. tt;
@@ -54,13 +57,22 @@ module _ {M K F : Type 0} (s : Setting M F) where
   scripted_front old halted after body why f what silenced early late said empty stop later =
       let part = part_front s old halted body why f early late said in
       let here = subst (λ (l : BodyLine). SaysStop s.tells.out halted.out after (l.call, why) (what, silenced)) (sym f.part.is) stop in
+      let lines = (output_by s f.between halted f.part.played f.part.left why f.part.stops).lines ++ stop_lines f.part.played.line.call why in
+      let said_then = part_says s f.between halted after f.line why f.part what silenced f.lasts.out here in
+      let rows = (output_by s f.between halted f.part.played f.part.left why f.part.stops).rows in
+      let shown_then = part_shows s f.between halted f.part.played f.part.left why f.part.stops in
+      let whole_lines = texts (flat_map (lines_of (s.library old.desk.fixed.library)) f.plays.played) in
+      let whole_rows = flat_map (rows_of s (s.library old.desk.fixed.library)) f.plays.played in
       record {
         part = record { lines = part.lines; whole = part.whole; begun = part.begun; hears = part.hears };
         says = says_then s.tells.out old.out f.between.out after (flat_map (lines_of (s.library old.desk.fixed.library)) f.plays.played)
-            ((output_by s f.between halted f.part.played f.part.left why f.part.stops).lines ++ stop_lines f.part.played.line.call why) (said_by (Err what) silenced)
-            f.plays.puts.0 f.plays.lasts.out (part_says s f.between halted after f.line why f.part what silenced f.lasts.out here);
-        shows = shows_then s.tells.screen old.screen f.between.screen halted.screen (flat_map (rows_of s (s.library old.desk.fixed.library)) f.plays.played)
-            (output_by s f.between halted f.part.played f.part.left why f.part.stops).rows (Some why) f.plays.puts.1 f.plays.lasts.screen (part_shows s f.between halted f.part.played f.part.left why f.part.stops);
+            lines (said_by (Err what) silenced) f.plays.puts.0 f.plays.lasts.out said_then;
+        shows = shows_then s.tells.screen old.screen f.between.screen halted.screen whole_rows rows (Some why) f.plays.puts.1 f.plays.lasts.screen shown_then;
+        said_whole = first_then s.tells.out old.out f.between.out after whole_lines (first_alone s.tells.out old.out f.between.out whole_lines f.plays.puts.0)
+            (more_says s.tells.out f.between.out after lines (said_by (Err what) silenced) said_then);
+        shown_whole = first_then s.tells.screen old.screen f.between.screen halted.screen whole_rows
+            (first_alone s.tells.screen old.screen f.between.screen whole_rows f.plays.puts.1)
+            (more_shows s.tells.screen f.between.screen halted.screen rows (Some why) shown_then);
         le = (let a = f.plays.lasts.out in let b = f.lasts.out in omega (arith, a, b, later));
         files = f.lasts.files ∙ f.plays.lasts.files;
         cause = λ new out more h more_faults. cause_of old f.between halted f.part.played f.part.left why f.part.stops (script_calls (record { played = f.plays.played; halted = Some (halted_by s f.between halted f.line why f.part); early = early; late = late; said = said })) new out more f.plays.lasts f.lasts empty part.hears h (let a = more_faults in omega (arith, later, a));

@@ -118,6 +118,8 @@ module _ {M K F : Type 0} (s : Setting M F) where
     };
     says = h.says;
     shows = h.shows;
+    said_whole = h.said_whole;
+    shown_whole = h.shown_whole;
     le = h.le;
     files = h.files;
     cause = λ new out more hears later.

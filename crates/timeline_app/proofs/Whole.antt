@@ -17,13 +17,15 @@ use Rattle.script_lang.specs.declared.script.BodyLine.{BodyLine}
 use Rattle.script_lang.specs.declared.script.Call.{Call}
 use Rattle.script_lang.specs.declared.script.Call.TheVariants as call
 use Rattle.play_head.specs.Carrying.{Carried, CarriesAll, FinishesExports, carried_calls, carrier}
-use Rattle.play_head.specs.Playing.{Setting, Player, Played, AreWhole, HasSomeCalls, HasTurns, lines_of}
+use Rattle.play_head.specs.Playing.{Setting, Player, Played, AreWhole, HasSomeCalls, HasTurns, lines_of, rows_of}
+use Rattle.play_head.specs.PlayingLine.{texts}
 use Rattle.play_head.specs.PlayingScript.{stop_of}
 use Rattle.play_head.proofs.Desks.{number-hears}
 use Rattle.play_head.proofs.Growing.{are_later}
-use Rattle.timeline_app.specs.Course.{Course, Halted, Program, Session, HasCause, IsBegun, IsCrew, all_carried, IsOutputOf, LeaveAll, AreNumbered, RunsCourse, SaysBy, SaysRest, ShowsBy, course_rows, ended_export, course_calls, halted_lines, script_calls, stop_call}
+use Rattle.timeline_app.specs.Course.{Course, Halted, Program, Session, GotFirst, HasCause, IsBegun, IsCrew, all_carried, IsOutputOf, LeaveAll, AreNumbered, RunsCourse, SaysBy, SaysRest, ShowsBy, course_rows, ended_export, course_calls, halted_lines, script_calls, stop_call}
 use Rattle.timeline_app.specs.Ending.{end_lines, final_status}
 use Rattle.timeline_app.proofs.Courses.{ScriptPart, calls_all, end_hears, joined_hears, heard_nothing}
+use Rattle.timeline_app.proofs.First.{first_then, more_rest}
 use Rattle.timeline_app.proofs.Speaking.{says_silent, says_then}
 
 -- ---- the calls of a line that was begun, whatever the caller hears later
@@ -73,6 +75,8 @@ module _ {M K F : Type 0} where
     pub part : ScriptPart s old played body c
     pub says : SaysBy s.tells.out old.out played.out (flat_map (lines_of (s.library old.desk.fixed.library)) c.played ++ halted_lines c.halted) one
     pub shows : ShowsBy s.tells.screen old.screen played.screen (course_rows s (s.library old.desk.fixed.library) c) (option_map (λ (h : Halted F). h.why) c.halted)
+    pub said_whole : GotFirst s.tells.out old.out played.out (texts (flat_map (lines_of (s.library old.desk.fixed.library)) c.played))
+    pub shown_whole : GotFirst s.tells.screen old.screen played.screen (flat_map (rows_of s (s.library old.desk.fixed.library)) c.played)
     pub le : old.out.faults ≤ played.out.faults
     pub files : played.store.file ≡ old.store.file
     pub cause : (new : DeskOf M K) (out : SinkSeen) (more : List (CallOf F)) → Hears s.library played.desk new more → played.out.faults ≤ out.faults → HasCause s old (record played { desk = new; out = out }) (script_calls c) c.halted
@@ -132,6 +136,10 @@ module _ {M K F : Type 0} (p : Program M F) (old : Session M K) (played : Player
         says = subst (λ (f : FixedOf M K). SaysBy s.tells.out old.player.out out (flat_map (lines_of (lib f.library)) c.played ++ halted_lines c.halted ++ end_lines s.clips (all_carried c)) c.said) (sym fixed)
             said;
         shows = subst (λ (f : FixedOf M K). ShowsBy s.tells.screen old.player.screen played.screen (course_rows s (lib f.library) c) (option_map (λ (h : Halted F). h.why) c.halted)) (sym fixed) script.shows;
+        said_whole = subst (λ (f : FixedOf M K). GotFirst s.tells.out old.player.out out (texts (flat_map (lines_of (lib f.library)) c.played))) (sym fixed)
+            (first_then s.tells.out old.player.out played.out out (texts (flat_map (lines_of (lib started.fixed.library)) c.played)) script.said_whole
+            (more_rest s.tells.out played.out out (end_lines s.clips (all_carried c)) one c.said rest));
+        shown_whole = subst (λ (f : FixedOf M K). GotFirst s.tells.screen old.player.screen played.screen (flat_map (rows_of s (lib f.library)) c.played)) (sym fixed) script.shown_whole;
         carries = carries;
         files = exported.files;
         exports = exported.exports;

@@ -108,6 +108,10 @@ ShowsBy tells old new rows (Some halt.NoMemory) = GotFront tells old new rows
 ShowsBy tells old new rows (Some halt.OutMemory) = GotFront tells old new rows
 ShowsBy tells old new rows (Some (halt.JournalFull len owing)) = GotAll tells old new rows
 
+-- A sink that tells its bytes got these pieces first, whatever came after them.
+abbrev pub GotFirst : Bool → (old new : SinkSeen) → (pieces : List (List ℕ)) → Type 0
+GotFirst tells old new pieces = IsTrue tells → (more : List (List ℕ)) × (new.pieces ≡ old.pieces ++ pieces ++ more)
+
 -- ---- its exports
 
 -- The first has this number, and each next one more.
@@ -218,6 +222,7 @@ module _ {M K F : Type 0} where
     pub few : (number : ℕ) → others < number → own number d.seen ≡ []
 
   -- A session from its start, where the journal is empty, to its end, by the journal that it then has.
+  -- 1 is the journal, 2 `out`, 3 the screen, 4 the files, 5 the exports, 6 the status, and 7 that no line of work ends early.
   pub record RunsCourse (p : Program M F) (old new : Session M K) (c : Course F) (code : ℕ) : Type 0 where
     -- 1: the journal is legal and within its limit
     pub known : IsDesk p.setting.library new.player.desk
@@ -237,9 +242,15 @@ module _ {M K F : Type 0} where
     -- 2: `out` got the lines
     pub says : SaysBy p.setting.tells.out old.player.out new.player.out
         (course_lines p.setting (p.setting.library new.player.desk.fixed.library) c) c.said
+    -- 2: those of each line that was played to its end, whole: so none is played after a put that wasn't `Ok`
+    pub said_whole : GotFirst p.setting.tells.out old.player.out new.player.out
+        (texts (flat_map (lines_of (p.setting.library new.player.desk.fixed.library)) c.played))
     -- 3: the screen got the rows
     pub shows : ShowsBy p.setting.tells.screen old.player.screen new.player.screen
         (course_rows p.setting (p.setting.library new.player.desk.fixed.library) c) (option_map (λ h. h.why) c.halted)
+    -- 3: those of each line that was played to its end, whole
+    pub shown_whole : GotFirst p.setting.tells.screen old.player.screen new.player.screen
+        (flat_map (rows_of p.setting (p.setting.library new.player.desk.fixed.library)) c.played)
     -- 4: the exports were carried out one after another
     pub carries : CarriesAll (carrier p.setting.library new.player.desk p.setting.rate p.vault_tells) old.vault new.vault (all_carried c)
     -- 4: and each one's file is there at the end
